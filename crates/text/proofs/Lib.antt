@@ -1,0 +1,3 @@
+pub mod Pens
+pub mod Lines
+pub mod Texts
