@@ -1,10 +1,10 @@
 -- The packed table: two header bytes, then twelve bytes for each task.
 use mathlib.Core.Path.{_≡_}
-use mathlib.Core.Bool.{Bool, _&&_}
+use mathlib.Core.Bool.{Bool, cond, _&&_}
 use mathlib.Core.List.{List, [], _∷_, _++_, map}
 use Prim.Native.Nat.{ℕ, zero, suc, _+_, _-_, _*_, _≤_, _<_}
 use denote.Ref.{RefT}
-use lib.Dec.{eqb, leb}
+use lib.Dec.{eqb, leb, ltb}
 use lib.ListN.{length, take, drop}
 use Rattle.std.specs.Options.{mapped}
 use Rattle.std.specs.shelf.Lists.{joined}
@@ -18,6 +18,7 @@ use Rattle.tasks.specs.declared.fault.FileFault.{FileFault}
 use Rattle.tasks.specs.declared.fault.FileFault.the-variants.{Length, Format, Spare, Code, NoRecord}
 use Rattle.tasks.specs.declared.fault.TaskFault.the-variants.{NotAdmitted}
 use Rattle.tasks.specs.declared.fault.PlanFault.the-variants.{Order, Full}
+use Rattle.tasks.specs.declared.list.Codes.{Codes}
 use Rattle.tasks.specs.declared.task.Candidate.{Candidate}
 use Rattle.tasks.specs.declared.task.Timing.{Timing}
 use Rattle.tasks.specs.declared.task.Task as task
@@ -72,6 +73,13 @@ countOf file = header file .count
 
 abbrev pub recordsOf : List ℕ → List (List ℕ)
 recordsOf file = chunks (countOf file) (drop 2 file)
+
+abbrev pub codePair : Codes → ℕ × ℕ
+codePair c = (c .test, c .cost)
+
+-- the codes of the test and of the cost that a file names, where it has a header
+abbrev pub codesIn : List ℕ → Option (ℕ × ℕ)
+codesIn file = cond (ltb (length file) 2) None (Some (header file .test, header file .cost))
 
 -- the first rule that a header breaks by itself, for a plan with these codes
 abbrev pub headerFault : ℕ → ℕ → Header → Option Fault

@@ -2,6 +2,7 @@
 ghost use mathlib.Core.Path.{_≡_};
 ghost use Prim.Native.Nat.{_*_, _/_, _%_, _≤_};
 ghost use lib.ListN.{length};
+ghost use Rattle.std.specs.Options.{mapped};
 ghost use Rattle.std.specs.Results.{Cases as ByOk};
 ghost use Rattle.std.specs.Vec.{made};
 ghost use Rattle.std.specs.declared.option.Option.the-variants.{Some, None};
@@ -9,7 +10,7 @@ ghost use Rattle.tasks.specs.Buffers.{delivered};
 ghost use Rattle.tables.specs.Examples.{Examples};
 ghost use Rattle.tables.specs.Pairing.{Back, Pairs};
 ghost use Rattle.tasks.specs.Lists.{plains, plainly, bytewise};
-ghost use Rattle.tables.specs.Tables.{headerFault, rows, chunks, decoded, encoded, recordAt};
+ghost use Rattle.tables.specs.Tables.{headerFault, rows, chunks, decoded, encoded, recordAt, codePair, codesIn};
 use crate::header::Header;
 use crate::header::split;
 use crate::header::write_header;
@@ -36,6 +37,19 @@ pub fn record(file: &[u8], n: usize) -> Result<&[u8], Fault>
         return Err(Fault::File(FileFault::NoRecord));
     }
     Ok(&records[12 * (n - 1)..12 * n])
+}
+
+// The codes that the header of a file names, where it has a header.
+pub fn codes(file: &[u8]) -> Option<Codes>
+    ensures { λ r. ⌜ mapped codePair r ≡ codesIn (now (file .entry)) ⌝ }
+{
+    let Ok((header, _)) = split(file) else {
+        return None;
+    };
+    Some(Codes {
+        test: header.test as u8,
+        cost: header.cost as u8,
+    })
 }
 
 // What a header is refused for by itself.

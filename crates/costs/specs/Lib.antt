@@ -1,0 +1,3 @@
+pub mod Prices
+pub mod Tiered
+pub mod Folds
