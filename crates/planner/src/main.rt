@@ -30,7 +30,10 @@ fn print_task(rt: &LibcRuntime, task: &Task) -> io::Result<()> {
     let section = task.section;
     let weight = task.weight;
     let tier = task.tier;
-    println!(rt, "task {id}: C {execution} D {deadline} T {period} S {section} weight {weight} tier {tier}")
+    println!(
+        rt,
+        "task {id}: C {execution} D {deadline} T {period} S {section} weight {weight} tier {tier}"
+    )
 }
 
 // Each task, and its response time with all other tasks above it.

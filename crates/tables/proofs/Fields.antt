@@ -15,7 +15,7 @@ use Rattle.tables.specs.declared.header.Header.{Header}
 use Rattle.tables.proofs.Packing.{bytesOf-length, bytesOf-number, number-bytesOf, below-bytes}
 
 -- the bits of some fields, and that each value fits its width
-abbrev total : List (ℕ × ℕ) → ℕ
+abbrev pub total : List (ℕ × ℕ) → ℕ
 total [] = 0
 total (f ∷ fs) = f .0 + total fs
 
@@ -32,14 +32,14 @@ packed-after n ((w, v) ∷ fs) =
     packed-after (n * 2 ^ w + v) fs
     ∙ rw (pow-add 2 w (total fs), packed-after (0 * 2 ^ w + v) fs, zero-mul, zero-add) (regroup n (2 ^ w) v (2 ^ total fs) (packed 0 fs))
 
-packed-small : (fs : List (ℕ × ℕ)) → Fit fs → packed 0 fs < 2 ^ total fs
+pub packed-small : (fs : List (ℕ × ℕ)) → Fit fs → packed 0 fs < 2 ^ total fs
 packed-small [] fit = omega arith
 packed-small ((w, v) ∷ fs) fit =
     rw (packed-after (0 * 2 ^ w + v) fs, zero-mul, zero-add, pow-add 2 w (total fs), mul-comm (2 ^ w) (2 ^ total fs))
     (mul-add-lt v (2 ^ total fs) (packed 0 fs) (2 ^ w) (fit .0) (packed-small fs (fit .1)))
 
 -- the value of the field i
-packed-field : (n : ℕ) (fs : List (ℕ × ℕ)) (i : ℕ) → i < length fs → Fit fs
+pub packed-field : (n : ℕ) (fs : List (ℕ × ℕ)) (i : ℕ) → i < length fs → Fit fs
     → packed n fs / 2 ^ total (drop (suc i) fs) % 2 ^ getD fs i (0, 0) .0 ≡ getD fs i (0, 0) .1
 packed-field n [] i h fit = absurd (omega arith)
 packed-field n ((w, v) ∷ fs) zero h fit =
@@ -63,7 +63,7 @@ packed-split (w ∷ ws) n m =
     ∙ rw (mod-pow-add n w (sum ws), pow-add 2 w (sum ws)) (regroup m (2 ^ w) (n / 2 ^ sum ws % 2 ^ w) (2 ^ sum ws) (n % 2 ^ sum ws))
 
 -- a field of the bytes of a number is one of the number
-field-bytesOf : (k n at width : ℕ) → n < 2 ^ (8 * k) → field (bytesOf k n) at width ≡ n / 2 ^ (8 * k - at - width) % 2 ^ width
+pub field-bytesOf : (k n at width : ℕ) → n < 2 ^ (8 * k) → field (bytesOf k n) at width ≡ n / 2 ^ (8 * k - at - width) % 2 ^ width
 field-bytesOf k n at width h =
     let e : number 256 (bytesOf k n) ≡ n = number-bytesOf k n 0 ∙ omega (arith, mod-eq-of-lt h) in rw (bytesOf-length k n, e)
 

@@ -45,11 +45,11 @@ use Rattle.tables.proofs.Tables.{passed}
 use Rattle.tables.proofs.Encoding.{encoded-length, joined-length}
 
 -- where there is no fault, each test held
-unless-none : {F : Type 0} (b : Bool) (f : F) (rest : Option F) → unless b f rest ≡ None → (b ≡ true) × (rest ≡ None)
+pub unless-none : {F : Type 0} (b : Bool) (f : F) (rest : Option F) → unless b f rest ≡ None → (b ≡ true) × (rest ≡ None)
 unless-none true f rest h = (refl, h)
 unless-none false f rest h = let z : _≡_ {A = ℕ} 0 1 = cc in absurd (omega arith)
 
-first-none : {F : Type 0} (o rest : Option F) → first o rest ≡ None → (o ≡ None) × (rest ≡ None)
+pub first-none : {F : Type 0} (o rest : Option F) → first o rest ≡ None → (o ≡ None) × (rest ≡ None)
 first-none None rest h = (refl, h)
 first-none (Some f) rest h = let z : _≡_ {A = ℕ} 0 1 = cc in absurd (omega arith)
 
@@ -57,7 +57,7 @@ outcome-ok : {X F : Type 0} (o : Option F) (x y : X) → outcome o x ≡ Ok y �
 outcome-ok None x y h = (refl, cc)
 outcome-ok (Some f) x y h = let z : _≡_ {A = ℕ} 0 1 = cc in absurd (omega arith)
 
-mapped-none : (o : Option TaskFault) → mapped fault.Task o ≡ None → o ≡ None
+pub mapped-none : (o : Option TaskFault) → mapped fault.Task o ≡ None → o ≡ None
 mapped-none None h = refl
 mapped-none (Some f) h = let z : _≡_ {A = ℕ} 0 1 = cc in absurd (omega arith)
 
@@ -68,7 +68,7 @@ sound-passes n c s =
     let p : ltb (c .section) (c .execution) ≡ true = lt-ltb _ _ (s .3) in
     rw (s .0, d, p)
 
-passes-sound : (n : ℕ) (c : Candidate) → taskFault n c ≡ None → Sound c
+pub passes-sound : (n : ℕ) (c : Candidate) → taskFault n c ≡ None → Sound c
 passes-sound n c h =
     let r = unless-none (ranged c) (Range n) _ h in
     let d = unless-none (leb (c .execution) (c .deadline) && leb (c .execution) (c .period)) (Deadline n) _ (r .1) in
@@ -77,7 +77,7 @@ passes-sound n c h =
     (r .0, leb-true _ _ (p .0), leb-true _ _ (p .1), ltb-true _ _ (s .0))
 
 -- and then each field fits its width
-sound-fits : (c : Candidate) → Sound c → Fit (recordFields c)
+pub sound-fits : (c : Candidate) → Sound c → Fit (recordFields c)
 sound-fits c s =
     let id = and-parts (ltb (c .id) 64) _ (s .0) in
     let tier = and-parts (ltb (c .tier) 2) _ (id .1) in
@@ -202,6 +202,21 @@ module _ (admitted : Timing → Bool) where
       rw (one, more) (take-append-drop 12 bytes)
 
   -- whole tables
+
+  -- a table that breaks no rule has tasks that can be held
+  pub table-held : (test cost : ℕ) (file : List ℕ) → tableFault admitted test cost file ≡ None → Held admitted (map candidate (recordsOf file))
+  table-held test cost file h =
+      let two = unless-none (leb 2 (length file)) (fault.File Length) _ h in
+      let head = first-none (headerFault test cost (header file)) _ (two .1) in
+      let format = unless-none (eqb (header file .format) 1) (fault.File Format) _ (head .0) in
+      let spare = unless-none (eqb (header file .spare) 0) (fault.File (Spare 0)) _ (format .1) in
+      let code = unless-none (eqb (header file .test) test && eqb (header file .cost) cost) (fault.File Code) _ (spare .1) in
+      let full = unless-none (leb (countOf file) 16) (fault.Plan Full) None (code .1) in
+      let sized = unless-none (eqb (length file) (2 + 12 * countOf file)) (fault.File Length) _ (head .1) in
+      let count : length (map candidate (recordsOf file)) ≡ countOf file = length-map (recordsOf file) candidate ∙ length-chunks (countOf file) (drop 2 file) in
+      let held = passes-held (recordsOf file) 1 0 (sized .1) in
+      record { sound = held .0; admits = held .1; ascend = held .2; few = omega (arith, count, leb-true (countOf file) 16 (full .0)) }
+
   module _ (test cost : ℕ) (t : test < 4) (k : cost < 4) where
     -- what a table decodes to, by its length, its header and what follows
     by : ℕ → Header → List ℕ → Result (List Candidate) Fault
@@ -242,7 +257,6 @@ module _ (admitted : Timing → Bool) where
         let format = unless-none (eqb (header file .format) 1) (fault.File Format) _ (head .0) in
         let spare = unless-none (eqb (header file .spare) 0) (fault.File (Spare 0)) _ (format .1) in
         let code = unless-none (eqb (header file .test) test && eqb (header file .cost) cost) (fault.File Code) _ (spare .1) in
-        let full = unless-none (leb (countOf file) 16) (fault.Plan Full) None (code .1) in
         let sized = unless-none (eqb (length file) (2 + 12 * countOf file)) (fault.File Length) _ (head .1) in
         let codes = and-parts (eqb (header file .test) test) (eqb (header file .cost) cost) (code .0) in
         let long : 2 ≤ length file = leb-true _ _ (two .0) in
@@ -252,11 +266,9 @@ module _ (admitted : Timing → Bool) where
         let rest : length (drop 2 file) ≡ 12 * countOf file = rw (length-drop 2 file) (omega arith) in
         let records = joined-chunks (countOf file) 1 0 (drop 2 file) rest (all-drop (λ b. b < 256) 2 file under) (sized .1) in
         let count : length rows ≡ countOf file = length-map (recordsOf file) candidate ∙ length-chunks (countOf file) (drop 2 file) in
-        let held = passes-held (recordsOf file) 1 0 (sized .1) in
-        let few : length rows ≤ 16 = omega (arith, count, leb-true (countOf file) 16 (full .0)) in
         let same : encoded test cost rows ≡ file = rw (count, records, first-two) (take-append-drop 2 file) in
         subst (λ (ds : List Candidate). Held admitted ds × (encoded test cost ds ≡ file)) (answer .1)
-        (record { sound = held .0; admits = held .1; ascend = held .2; few = few }, same)
+        (table-held test cost file (answer .0), same)
 
     pub pairs : Pairs admitted test cost
     pairs = record { table = table; list = list; numbers = same-task }
