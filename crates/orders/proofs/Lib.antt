@@ -1,0 +1,14 @@
+pub mod Counts
+pub mod Words
+pub mod Members
+pub mod Levels
+pub mod Firsts
+pub mod Greedy
+pub mod Paths
+pub mod Steps
+pub mod Ends
+pub mod Bounds
+pub mod Optimal
+pub mod Stacks
+pub mod Follows
+pub mod Runs
