@@ -12,3 +12,4 @@ pub mod Optimal
 pub mod Stacks
 pub mod Follows
 pub mod Runs
+pub mod Tree

@@ -99,3 +99,9 @@ module _ {V : Type 0} (n : ℕ) (answer : Test) (c : Cost V) where
 abbrev pub vertices : ℕ → ℕ
 vertices zero = 0
 vertices (suc n) = suc n * (1 + vertices n)
+
+-- n (n - 1) .. (n - l + 1), that is n! / (n - l)!: how many vertices there are at level l
+abbrev pub arrangements : ℕ → ℕ → ℕ
+arrangements n zero = 1
+arrangements zero (suc l) = 0
+arrangements (suc n) (suc l) = suc n * arrangements n l

@@ -1,14 +1,15 @@
 -- What is proved of the first order and of the search.
 use mathlib.Core.Path.{_≡_}
 use mathlib.Core.List.{List, [], _∷_, _++_}
-use Prim.Native.Nat.{ℕ, _+_, _*_, _≤_, _<_}
+use Prim.Native.Nat.{ℕ, suc, _+_, _*_, _≤_, _<_}
 use lib.ListN.{length}
 use Rattle.std.specs.declared.option.Option.{Option}
 use Rattle.std.specs.declared.option.Option.the-variants.{Some, None}
+use Rattle.tasks.specs.Numbers.{sum-below}
 use Rattle.orders.specs.Orders.{word, count, unplaced, Test, Monotone, Assignment, Passes, times}
 use Rattle.orders.specs.Costs.{Cost, Laws, NoMore, cost}
 use Rattle.orders.specs.First.{Choice, first-order}
-use Rattle.orders.specs.Search.{Vertex, State, begun, steps, vertices}
+use Rattle.orders.specs.Search.{Vertex, State, begun, steps, vertices, arrangements}
 
 -- every order fails
 abbrev pub No-order : ℕ → Test → Type 0
@@ -53,6 +54,10 @@ State-after V n answer c first k = steps n answer c k (begun n first)
 abbrev pub Search-ends : Type 0 → Type 0
 Search-ends V = (n : ℕ) (answer : Test) (c : Cost V) (first : Assignment) (k : ℕ) → vertices n ≤ k
     → State-after V n answer c first k .active ≡ []
+
+-- V(n) counts the vertices of the levels 1 to n
+abbrev pub Vertices-by-level : Type 0
+Vertices-by-level = (n : ℕ) → vertices n ≡ sum-below n (λ l. arrangements n (suc l))
 
 -- a search that has ended has a passing order with its times, and every order that passes costs at least as much
 pub record Best-order {V : Type 0} (n : ℕ) (answer : Test) (c : Cost V) (best : Assignment) : Type 0 where

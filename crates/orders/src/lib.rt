@@ -1,5 +1,5 @@
 // What holds of the first order and of the search by branch and bound, for every test and cost with the laws.
-ghost use Rattle.orders.specs.Theorems.{First-order-is-exact, First-order-is-greedy, Search-ends, Search-is-optimal, Stack-stays-small, Only-own-task-late};
+ghost use Rattle.orders.specs.Theorems.{First-order-is-exact, First-order-is-greedy, Search-ends, Search-is-optimal, Vertices-by-level, Stack-stays-small, Only-own-task-late};
 
 // The first order is none exactly where every order fails, and else it is an order that passes.
 pub fn first_order_is_exact<V>() -> u8
@@ -39,6 +39,13 @@ pub fn stack_stays_small<V>() -> u8
 // When a vertex is examined, its ancestors pass with the times that it keeps: only its own task can be late.
 pub fn only_own_task_late<V>() -> u8
     ensures { λ _. ⌜ Only-own-task-late V ⌝ }
+{
+    0
+}
+
+// V(n) is the sum over the levels l from 1 to n of n! / (n - l)!.
+pub fn vertices_by_level() -> u8
+    ensures { λ _. ⌜ Vertices-by-level ⌝ }
 {
     0
 }

@@ -4,7 +4,7 @@ ghost use Rattle.tasks.specs.Faults.{numberOf, layerOf, recordOf};
 ghost use Rattle.tasks.specs.declared.fault.Fault.the-variants.{File, Task};
 
 // A fault of the file; a spare bit names its record, and 0 for the header.
-#[derive(Clone, Copy, PartialEq, Eq, Debug)]
+#[derive(Clone, Copy, Debug)]
 pub enum FileFault {
     Length,
     Format,
@@ -14,7 +14,7 @@ pub enum FileFault {
 }
 
 // A fault of one task, with the record that it stands in, or 0.
-#[derive(Clone, Copy, PartialEq, Eq, Debug)]
+#[derive(Clone, Copy, Debug)]
 pub enum TaskFault {
     Range(u8),
     Deadline(u8),
@@ -23,7 +23,7 @@ pub enum TaskFault {
 }
 
 // A fault of the whole plan.
-#[derive(Clone, Copy, PartialEq, Eq, Debug)]
+#[derive(Clone, Copy, Debug)]
 pub enum PlanFault {
     // an id that is held already, or in a table is not above the one before
     Order(u8),
@@ -39,14 +39,14 @@ pub enum PlanFault {
     AboveItself,
 }
 
-#[derive(Clone, Copy, PartialEq, Eq, Debug)]
+#[derive(Clone, Copy, Debug)]
 pub enum Fault {
     File(FileFault),
     Task(TaskFault),
     Plan(PlanFault),
 }
 
-#[derive(Clone, Copy, PartialEq, Eq, Debug)]
+#[derive(Clone, Copy)]
 pub enum Layer {
     File,
     Task,

@@ -1,7 +1,7 @@
 // A task, the candidate that it is checked from, and the timing that a response test reads.
 ghost use Prim.Native.Nat.{_≤_, _<_};
 
-#[derive(Clone, Copy, PartialEq, Eq)]
+#[derive(Clone, Copy)]
 pub struct Task {
     pub id: u8,
     pub tier: u8,

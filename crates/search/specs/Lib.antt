@@ -1,0 +1,4 @@
+pub mod Ranks
+pub mod Model
+pub mod Picks
+pub mod Worked
