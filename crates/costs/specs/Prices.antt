@@ -1,8 +1,9 @@
 -- What a cost means, and the laws that every cost obeys.
-use Prim.Native.Nat.{ℕ, _+_, _/_, _-_, _^_, _≤_}
+use Prim.Native.Nat.{ℕ, _+_, _*_, _/_, _-_, _^_, _≤_}
 use mathlib.Core.Path.{_≡_}
 use mathlib.Core.Bool.{Bool, true}
 use mathlib.Core.Logic.{_⊎_}
+use lib.Dec.{leb}
 
 pub record Prices (V : Type 0) : Type 0 where
   -- the cost of no task
@@ -42,3 +43,7 @@ pub record Lawful {V : Type 0} (p : Prices V) : Type 0 where
 -- weight times response is less than 2 ^ 48 for one task, so at least this many tasks have the sum v
 abbrev pub share : ℕ → ℕ
 share v = (v + (2 ^ 48 - 1)) / 2 ^ 48
+
+-- the sum: weight times response, added
+abbrev pub sum-prices : Prices ℕ
+sum-prices = record { nothing = 0; single = λ weight tier response. weight * response; joined = _+_; no-more = leb; numbers = λ a. (a, 0); covered = share }

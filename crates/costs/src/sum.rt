@@ -1,7 +1,5 @@
 // The sum: weight times response, added.
-ghost use Prim.Native.Nat.{_+_, _*_};
-ghost use lib.Dec.{leb};
-ghost use Rattle.costs.specs.Prices.{share};
+ghost use Rattle.costs.specs.Prices.{sum-prices};
 use crate::cost::Cost;
 
 #[derive(Clone, Copy)]
@@ -12,7 +10,7 @@ pub impl Cost for Sum as SumCost {
 
     ghost number = { 0 };
 
-    ghost prices = { λ _. record { nothing = 0; single = λ weight _ response. weight * response; joined = _+_; no-more = leb; numbers = λ a. (a, 0); covered = share } };
+    ghost prices = { λ _. sum-prices };
 
     fn code(&self) -> u8 {
         0

@@ -2,15 +2,14 @@
 use mathlib.Core.Path.{_≡_}
 use mathlib.Core.Bool.{true, false}
 use mathlib.Core.List.{List, [], _∷_, map}
-use Prim.Native.Nat.{ℕ, _+_, _*_}
-use lib.Dec.{leb}
+use Prim.Native.Nat.{ℕ}
 use Rattle.std.specs.declared.result.Result.{Result}
 use Rattle.std.specs.declared.result.Result.the-variants.{Ok, Err}
 use Rattle.tasks.specs.declared.fault.Fault.{Fault}
 use Rattle.tasks.specs.declared.task.Candidate.{Candidate}
 use Rattle.tasks.specs.Faults.{numberOf}
 use Rattle.response.specs.Tests.{one-job, one-job-admits}
-use Rattle.costs.specs.Prices.{share}
+use Rattle.costs.specs.Prices.{sum-prices}
 use Rattle.law.specs.declared.command.Command.{Command}
 use Rattle.law.specs.declared.command.Command.the-variants.{Load, Add, Drop, Start, Advance, Stop, Report}
 use Rattle.law.specs.declared.command.Outcome.{Outcome}
@@ -21,15 +20,7 @@ use Rattle.law.specs.Runs.{new, after, events, outcomes}
 -- the one-job test and the sum
 abbrev pub one-job-sum : Meaning ℕ
 one-job-sum =
-    meaning 0 one-job-admits one-job 0
-    (record {
-      nothing = 0;
-      single = λ weight tier time. weight * time;
-      joined = _+_;
-      no-more = leb;
-      numbers = λ total. (total, 0);
-      covered = share;
-    })
+    meaning 0 one-job-admits one-job 0 sum-prices
 
 -- a task with its deadline at its period
 abbrev pub task : ℕ → ℕ → ℕ → ℕ → Candidate

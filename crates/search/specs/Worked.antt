@@ -1,8 +1,7 @@
--- Worked cases of the first order and the search, under the one-job test and the sum of weight times response.
-use Prim.Native.Nat.{ℕ, _+_, _*_}
+-- The worked cases: the answers of the two tests, and the first order and the search under the one-job test and the sum.
+use Prim.Native.Nat.{ℕ}
 use mathlib.Core.Path.{_≡_}
 use mathlib.Core.List.{List, [], _∷_, map}
-use lib.Dec.{leb}
 use lib.ListN.{length, getD}
 use Rattle.std.specs.Options.{mapped}
 use Rattle.std.specs.declared.option.Option.{Option}
@@ -11,15 +10,13 @@ use Rattle.std.specs.shelf.Lists.{All}
 use Rattle.tasks.specs.declared.task.Candidate.{Candidate}
 use Rattle.tasks.specs.Timing.{timings}
 use Rattle.response.specs.Tests.{one-job}
-use Rattle.costs.specs.Prices.{Prices, share}
+use Rattle.response.specs.Worked as response
+use Rattle.costs.specs.Prices.{sum-prices}
 use Rattle.costs.specs.Folds.{no-task}
 use Rattle.orders.specs.Orders.{Assignment, times}
 use Rattle.orders.specs.Costs.{cost}
 use Rattle.orders.specs.Search.{State, begun, vertices}
 use Rattle.search.specs.Model.{priced, worth, first-over, steps-over, stepped-over}
-
-abbrev sum : Prices ℕ
-sum = record { nothing = 0; single = λ weight tier response. weight * response; joined = _+_; no-more = leb; numbers = λ a. (a, 0); covered = share }
 
 -- what a search from the first order comes to; orders by ids, level 1 first
 pub record Outcome : Type 0 where
@@ -38,24 +35,24 @@ module _ (held : List Candidate) where
   abbrev searched : Assignment → State → Outcome
   searched first end = record {
     first = ids (first .order);
-    first-cost = worth (priced sum held) first;
-    examined = stepped-over one-job sum held (vertices (length held)) (begun (length held) first);
+    first-cost = worth (priced sum-prices held) first;
+    examined = stepped-over one-job sum-prices held (vertices (length held)) (begun (length held) first);
     whole = vertices (length held);
     best = ids (end .best .order);
-    best-cost = worth (priced sum held) (end .best);
+    best-cost = worth (priced sum-prices held) (end .best);
   }
 
   abbrev outcome-from : Option Assignment → Option Outcome
   outcome-from None = None
-  outcome-from (Some first) = Some (searched first (steps-over one-job sum held (vertices (length held)) (begun (length held) first)))
+  outcome-from (Some first) = Some (searched first (steps-over one-job sum-prices held (vertices (length held)) (begun (length held) first)))
 
   -- the outcome, or none where no order passes
   abbrev pub outcome : Option Outcome
-  outcome = outcome-from (first-over one-job sum held)
+  outcome = outcome-from (first-over one-job sum-prices held)
 
   -- what an order costs, by positions; none where it fails at some level
   abbrev pub cost-of : List ℕ → Option ℕ
-  cost-of order = mapped (cost (priced sum held) order) (times (one-job (timings held)) order)
+  cost-of order = mapped (cost (priced sum-prices held) order) (times (one-job (timings held)) order)
 
 pub record Case : Type 0 where
   pub held : List Candidate
@@ -112,5 +109,6 @@ order-cases =
     ∷ []
 
 pub record Worked : Type 0 where
+  pub answers : response.Worked
   pub searches : All (λ c. outcome (c .held) ≡ c .outcome) cases
   pub orders : All (λ c. cost-of (c .held) (c .order) ≡ c .cost) order-cases
