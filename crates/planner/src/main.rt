@@ -1,4 +1,12 @@
-// Reads a packed table from standard input, and prints its tasks with their response times, or the line of its refusal.
+// Reads a packed table from standard input, searches for its cheapest order, and prints the listing or the line of a refusal.
+use costs::cost::Cost;
+use costs::sum::Sum;
+use costs::sum::SumCost;
+use costs::tiers::Tiers;
+use costs::tiers::TiersCost;
+use law::command::Command;
+use plan::plan::Plan;
+use plan::run::run_new;
 use response::one_job::OneJob;
 use response::one_job::OneJobAdmission;
 use response::one_job::OneJobTest;
@@ -6,62 +14,21 @@ use response::test::ResponseTest;
 use response::window::Window;
 use response::window::WindowAdmission;
 use response::window::WindowTest;
+use std::error::AnyError;
 use std::io;
 use std::io::Read;
 use std::io::Write;
 use tables::table::codes;
-use tables::table::decode;
-use tables::table::encode;
 use tasks::fault::Fault;
-use tasks::list::Codes;
-use tasks::list::TaskList;
-use tasks::set::TaskSet;
-use tasks::task::Task;
 use text::refusal_line;
 
 // A longer input is no table: it is refused by its header or its length, whatever follows.
 const LONGEST_INPUT: u64 = 1024;
 
-fn print_task(rt: &LibcRuntime, task: &Task) -> io::Result<()> {
-    let id = task.id;
-    let execution = task.execution;
-    let deadline = task.deadline;
-    let period = task.period;
-    let section = task.section;
-    let weight = task.weight;
-    let tier = task.tier;
-    println!(
-        rt,
-        "task {id}: C {execution} D {deadline} T {period} S {section} weight {weight} tier {tier}"
-    )
-}
+// How many vertices are examined at a time, and how many times at most.
+const STEP: u32 = 1_000_000;
 
-// Each task, and its response time with all other tasks above it.
-fn print_tasks<T: ResponseTest>(rt: &LibcRuntime, test: &T, tasks: &[Task]) -> io::Result<()> {
-    for (position, task) in tasks.iter().enumerate() {
-        print_task(rt, task)?;
-        let others = TaskSet::first(tasks.len()).without(position);
-        match test.respond(tasks, position, others) {
-            Some(time) => println!(rt, "  below all others: {time}")?,
-            None => println!(rt, "  below all others: late")?,
-        }
-    }
-    Ok(())
-}
-
-fn print_packed(rt: &LibcRuntime, codes: Codes, list: &TaskList, file: &[u8]) -> io::Result<()> {
-    let mut out = [0u8; 194];
-    match encode(codes, list, &mut out) {
-        Ok(count) => {
-            if &out[0..count] == file {
-                println!(rt, "packs to the same {count} bytes")
-            } else {
-                println!(rt, "packs to other bytes")
-            }
-        }
-        Err(fault) => print_refusal(rt, fault),
-    }
-}
+const STEPS: u32 = 1_000;
 
 fn print_refusal(rt: &LibcRuntime, fault: Fault) -> io::Result<()> {
     let mut line = [0u8; 32];
@@ -71,17 +38,74 @@ fn print_refusal(rt: &LibcRuntime, fault: Fault) -> io::Result<()> {
     }
 }
 
-fn show<T: ResponseTest>(rt: &LibcRuntime, test: &T, codes: Codes, file: &[u8]) -> io::Result<()> {
-    match decode(test, codes, file) {
-        Ok(list) => {
-            print_tasks(rt, test, list.as_slice())?;
-            print_packed(rt, codes, &list, file)
-        }
+fn print_listing<T: ResponseTest + Drop, C: Cost + Drop>(
+    rt: &LibcRuntime,
+    plan: &Plan<T, C>,
+) -> io::Result<()> {
+    let mut text = [0u8; 512];
+    match plan.listing(&mut text) {
+        Ok(count) if count <= text.len() => rt.stdout().write_all(&text[0..count]),
+        Ok(_) => Ok(()),
         Err(fault) => print_refusal(rt, fault),
     }
 }
 
-fn main(rt: LibcRuntime) -> io::Result<()> {
+// How far the search is, on standard error.
+fn print_progress<T: ResponseTest + Drop, C: Cost + Drop>(
+    rt: &LibcRuntime,
+    plan: &Plan<T, C>,
+    examined: u64,
+) -> io::Result<()> {
+    match plan.best_cost() {
+        Some((first, second)) => {
+            eprintln!(
+                rt,
+                "examined {examined} vertices, best cost {first} {second}"
+            )
+        }
+        None => Ok(()),
+    }
+}
+
+// Advances until the search is finished, or for long enough.
+fn search<T: ResponseTest + Drop, C: Cost + Drop>(
+    rt: &LibcRuntime,
+    plan: &mut Plan<T, C>,
+) -> io::Result<()> {
+    let mut examined = 0u64;
+    for _ in 0..STEPS {
+        let Ok(progress) = plan.advance(STEP) else {
+            break;
+        };
+        if progress.finished {
+            break;
+        }
+        examined = examined.saturating_add(u64::from(progress.count));
+        print_progress(rt, plan, examined)?;
+    }
+    Ok(())
+}
+
+fn plan_table<T: ResponseTest + Drop, C: Cost + Drop>(
+    rt: &LibcRuntime,
+    test: T,
+    cost: C,
+    file: &[u8],
+) -> Result<(), AnyError> {
+    let commands = [Command::Load(file), Command::Start];
+    let (mut plan, answers) = run_new(rt.alloc(), test, cost, &commands, &mut [])?;
+    for answer in answers.iter() {
+        if let Err(fault) = *answer {
+            print_refusal(rt, fault)?;
+            return Ok(());
+        }
+    }
+    search(rt, &mut plan)?;
+    print_listing(rt, &plan)?;
+    Ok(())
+}
+
+fn main(rt: LibcRuntime) -> Result<(), AnyError> {
     let mut file = Vec::new(rt.alloc());
     rt.stdin().take(LONGEST_INPUT).read_to_end(&mut file)?;
     let named = match codes(&file) {
@@ -89,9 +113,9 @@ fn main(rt: LibcRuntime) -> io::Result<()> {
         None => (0, 0),
     };
     match named {
-        (1, 0) => show(&rt, &Window, Codes { test: 1, cost: 0 }, &file),
-        (1, 1) => show(&rt, &Window, Codes { test: 1, cost: 1 }, &file),
-        (0, 1) => show(&rt, &OneJob, Codes { test: 0, cost: 1 }, &file),
-        _ => show(&rt, &OneJob, Codes { test: 0, cost: 0 }, &file),
+        (0, 1) => plan_table(&rt, OneJob, Tiers, &file),
+        (1, 0) => plan_table(&rt, Window, Sum, &file),
+        (1, 1) => plan_table(&rt, Window, Tiers, &file),
+        _ => plan_table(&rt, OneJob, Sum, &file),
     }
 }

@@ -1,0 +1,9 @@
+pub mod States
+pub mod Model
+pub mod Ids
+pub mod Asking
+pub mod Calls
+pub mod Answers
+pub mod Listing
+pub mod Progress
+pub mod Leading
