@@ -50,7 +50,7 @@ fn print_listing<T: ResponseTest + Drop, C: Cost + Drop>(
     }
 }
 
-// How far the search is, on standard error.
+// How far the plan is, on standard error.
 fn print_progress<T: ResponseTest + Drop, C: Cost + Drop>(
     rt: &LibcRuntime,
     plan: &Plan<T, C>,
@@ -67,8 +67,8 @@ fn print_progress<T: ResponseTest + Drop, C: Cost + Drop>(
     }
 }
 
-// Advances until the search is finished, or for long enough.
-fn search<T: ResponseTest + Drop, C: Cost + Drop>(
+// Advances until the plan is finished, or for long enough.
+fn advance_to_the_end<T: ResponseTest + Drop, C: Cost + Drop>(
     rt: &LibcRuntime,
     plan: &mut Plan<T, C>,
 ) -> io::Result<()> {
@@ -100,7 +100,7 @@ fn plan_table<T: ResponseTest + Drop, C: Cost + Drop>(
             return Ok(());
         }
     }
-    search(rt, &mut plan)?;
+    advance_to_the_end(rt, &mut plan)?;
     print_listing(rt, &plan)?;
     Ok(())
 }

@@ -1,4 +1,4 @@
--- What the two tests answer, said without a search, a limit or a loop.
+-- What the two tests answer, said without a scan, a limit or a loop.
 use Prim.Native.Nat.{ℕ, _+_, _*_, _≤_, _<_}
 use mathlib.Core.Path.{_≡_}
 use mathlib.Core.Bool.{false}
