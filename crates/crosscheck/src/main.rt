@@ -1,5 +1,7 @@
 // Runs a second planner, made independently, beside the first on random and damaged tables, and prints what was compared. A difference
 // is printed with its table, and ends the program with an error.
+#![tactic(auto)]
+
 use commands::stop;
 use costs::cost::Cost;
 use costs::sum::Sum;

@@ -1,4 +1,6 @@
 //! The tick machine, and that no job of an order outruns its response time on it.
+#![tactic(auto)]
+
 ghost use Rattle.response.specs.Tests.{one_job, one_job_admits, window, window_admits};
 ghost use Rattle.machine.specs.Claims.{Kept, Named};
 ghost use Rattle.machine.specs.Premises.{PremisesNeeded};

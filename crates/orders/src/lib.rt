@@ -1,4 +1,6 @@
 // What holds of the first order and of the search by branch and bound, for every test and cost with the laws.
+#![tactic(auto)]
+
 ghost use Rattle.orders.specs.Theorems.{FirstOrderIsExact, FirstOrderIsGreedy, SearchEnds, SearchIsOptimal, VerticesByLevel, StackStaysSmall, OnlyOwnTaskLate};
 
 // The first order is none exactly where every order fails, and else it is an order that passes.

@@ -1,4 +1,6 @@
 // A plan: its commands, what it answers, and the law over every run of commands.
+#![tactic(auto)]
+
 pub mod answers;
 mod held;
 mod ids;

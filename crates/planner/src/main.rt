@@ -1,4 +1,6 @@
 // Reads a packed table from standard input, finds its cheapest order, and prints the listing or the line of a refusal.
+#![tactic(auto)]
+
 use costs::cost::Cost;
 use costs::sum::Sum;
 use costs::tiers::Tiers;

@@ -1,4 +1,6 @@
 // Response-time tests for fixed-priority tasks.
+#![tactic(auto)]
+
 pub mod laws;
 mod load;
 pub mod one_job;

@@ -1,4 +1,6 @@
 // Running code of the first order and of the search by branch and bound, and the order of least cost.
+#![tactic(auto)]
+
 pub mod best;
 pub mod first;
 mod pick;

@@ -1,3 +1,5 @@
 // Tests of the search, in a crate of their own so that the proved crate is not proved twice.
+#![tactic(auto)]
+
 #[cfg(test)]
 mod tests;

@@ -1,4 +1,6 @@
 // Tasks, sets and lists of tasks, and what a call is refused for.
+#![tactic(auto)]
+
 pub mod admission;
 pub mod check;
 pub mod fault;

@@ -1,4 +1,6 @@
 // Texts in a buffer that the caller lends, byte for byte.
+#![tactic(auto)]
+
 ghost use Rattle.std.specs.Prelude.{◌≡◌, ◌≤◌, map, length};
 ghost use Rattle.tasks.specs.Buffers.{delivered};
 ghost use Rattle.tasks.specs.Faults.{number_of, record_of};
