@@ -9,17 +9,17 @@ use tasks::task::Task;
 
 // A cost of fewer than 16 tasks, joined with that of one task more.
 pub fn add_task<C: Cost>(cost: &C, sum: C::Value, task: &Task, time: u32) -> C::Value
-    requires { (prices cost.now).covered sum < 16 }
-    ensures value { result ≡ (prices cost.now).joined sum ((prices cost.now).single task.now.weight task.now.tier time) }
-    ensures covers { (prices cost.now).covered result ≤ (prices cost.now).covered sum + 1 }
+    requires { (C.prices cost.now).covered sum < 16 }
+    ensures value { result ≡ (C.prices cost.now).joined sum ((C.prices cost.now).single task.now.weight task.now.tier time) }
+    ensures covers { (C.prices cost.now).covered result ≤ (C.prices cost.now).covered sum + 1 }
 {
     cost.join(sum, cost.one(task.weight, task.tier, time))
 }
 
 // The cost of all tasks, each with the time at its position: the least of all costs with times that are nowhere earlier.
 pub fn total_cost<C: Cost>(cost: &C, tasks: &TaskList, times: &[u32; 16]) -> C::Value
-    ensures value { result ≡ total (prices cost.now) (plains tasks.now) (λ i. slice_index times.now i) }
-    ensures least { LaterNoLess (prices cost.now) (plains tasks.now) (λ i. slice_index times.now i) }
+    ensures value { result ≡ total (C.prices cost.now) (plains tasks.now) (λ i. slice_index times.now i) }
+    ensures least { LaterNoLess (C.prices cost.now) (plains tasks.now) (λ i. slice_index times.now i) }
 {
     let mut sum = cost.none();
     for (position, task) in tasks.as_slice().iter().enumerate() {
@@ -34,7 +34,7 @@ pub fn total_if_timed<C: Cost>(
     tasks: &TaskList,
     times: &[Option<u32>; 16],
 ) -> Option<C::Value>
-    ensures { result ≡ total_if_timed (prices cost.now) (plains tasks.now) (λ i. slice_index_or times.now i None) }
+    ensures { result ≡ total_if_timed (C.prices cost.now) (plains tasks.now) (λ i. slice_index_or times.now i None) }
 {
     let mut sum = cost.none();
     for (position, task) in tasks.as_slice().iter().enumerate() {

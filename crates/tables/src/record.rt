@@ -40,7 +40,7 @@ fn read_fields(bytes: &[u8]) -> Result<(u32, Candidate), FileFault>
 // The task in a record, or the first rule that the record breaks.
 pub fn read_task<T: Admission>(test: &T, bytes: &[u8], record: u8) -> Result<Task, Fault>
     requires { length bytes.now ≡ 12 }
-    ensures { ReadAs (admitted test.now) «record» bytes.now result }
+    ensures { ReadAs (T.admitted test.now) «record» bytes.now result }
 {
     let (spare, candidate) = read_fields(bytes)?;
     if spare != 0 {

@@ -64,7 +64,7 @@ fn check_header(header: Header, codes: Codes) -> Result<(), Fault>
 fn read_tasks<T: Admission>(test: &T, records: &[u8]) -> Result<TaskList, Fault>
     requires whole { length records.now % 12 ≡ 0 }
     requires few { length records.now ≤ 12 * 16 }
-    ensures { plainly result ≡ rows (admitted test.now) (chunks (length records.now / 12) records.now) }
+    ensures { plainly result ≡ rows (T.admitted test.now) (chunks (length records.now / 12) records.now) }
 {
     let mut tasks = TaskList::new();
     let mut floor = 0;
@@ -82,9 +82,9 @@ fn read_tasks<T: Admission>(test: &T, records: &[u8]) -> Result<TaskList, Fault>
 
 // The tasks of a table, for a plan with these codes.
 pub fn decode<T: Admission>(test: &T, codes: Codes, file: &[u8]) -> Result<TaskList, Fault>
-    ensures value { plainly result ≡ decoded (admitted test.now) codes.test codes.cost file.now }
+    ensures value { plainly result ≡ decoded (T.admitted test.now) codes.test codes.cost file.now }
     ensures table { IfOk result (λ l. encoded codes.test codes.cost (plains l) ≡ file.now) }
-    ensures pairs { Pairs (admitted test.now) codes.test codes.cost }
+    ensures pairs { Pairs (T.admitted test.now) codes.test codes.cost }
 {
     let (header, records) = split(file)?;
     check_header(header, codes)?;

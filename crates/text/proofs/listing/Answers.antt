@@ -25,10 +25,10 @@ loop-i-preserved c =
     rw (level_lines_more 1 c.args.levels.now c.loop-i.i c.index-levels-i.result c.loop-i-test.true c.index-levels-i.is, add_comm)
     (c.loop-i.invariant ▷ c.line.ensures)
 
-pub returns-then-out-lt-LISTING-LEN : goal.returns-then-out-lt-LISTING-LEN
-returns-then-out-lt-LISTING-LEN c = record {
+pub returns-then-out-lt-LISTING_LEN : goal.returns-then-out-lt-LISTING_LEN
+returns-then-out-lt-LISTING_LEN c = record {
   fits = length_listing c.args.levels.now c.args.cost.0 c.args.cost.1 c.requires (omega arith) (omega arith);
-  written = rw (lt-ltb _ _ c.if-out-lt-LISTING-LEN.true);
+  written = rw (lt-ltb _ _ c.if-out-lt-LISTING_LEN.true);
 }
 
 pub returns : goal.returns
@@ -37,5 +37,5 @@ returns c =
     let lines = rw all at c.loop-i.invariant in
     record {
       fits = length_listing c.args.levels.now c.args.cost.0 c.args.cost.1 c.requires (omega arith) (omega arith);
-      written = all_delivered 512 _ c.args.out.now _ _ _ (lines ▷ c.line-2.ensures) refl refl (search rules) c.if-out-lt-LISTING-LEN.false;
+      written = all_delivered 512 _ c.args.out.now _ _ _ (lines ▷ c.line-2.ensures) refl refl (search rules) c.if-out-lt-LISTING_LEN.false;
     }

@@ -4,10 +4,10 @@ use Rattle.text.proofs.Pens.{all_delivered}
 use Rattle.text.proofs.Texts.{length_refusal}
 use Rattle.text.proofs.refusal_line.Goals as goal
 
-pub returns-then-out-lt-REFUSAL-LEN : goal.returns-then-out-lt-REFUSAL-LEN
-returns-then-out-lt-REFUSAL-LEN c = record {
+pub returns-then-out-lt-REFUSAL_LEN : goal.returns-then-out-lt-REFUSAL_LEN
+returns-then-out-lt-REFUSAL_LEN c = record {
   fits = subst₂ (λ (n r : ℕ). length (refusal_line n r) ≤ 32) c.number-number.ensures c.record-record.ensures (length_refusal c.number-number.result c.record-record.result (omega arith) (omega arith));
-  written = rw (lt-ltb _ _ c.if-out-lt-REFUSAL-LEN.true);
+  written = rw (lt-ltb _ _ c.if-out-lt-REFUSAL_LEN.true);
 }
 
 pub line-requires : goal.line-requires
@@ -19,5 +19,5 @@ returns c =
     let record' = c.record-record.ensures in
     record {
       fits = subst₂ (λ (n r : ℕ). length (refusal_line n r) ≤ 32) number record' (length_refusal c.number-number.result c.record-record.result (omega arith) (omega arith));
-      written = rw (← number, ← record') (all_delivered 32 _ c.args.out.now _ _ _ c.line.ensures refl refl (search rules) c.if-out-lt-REFUSAL-LEN.false);
+      written = rw (← number, ← record') (all_delivered 32 _ c.args.out.now _ _ _ c.line.ensures refl refl (search rules) c.if-out-lt-REFUSAL_LEN.false);
     }

@@ -12,8 +12,8 @@ loop-position-init g c =
     let f = λ (i : ℕ). charge p (map plain (items c.args.tasks.now)) i (get_or c.args.times.now i 0) in
     (rw (c.none-sum.ensures, laws.covers_none) (omega arith), c.none-sum.ensures ∙ sym (join_none p f))
 
-pub add-task-sum-requires : goal.add-task-sum-requires
-add-task-sum-requires g c = omega (arith, c.loop-position.invariant.0, c.args.tasks.now.few)
+pub add_task-sum-requires : goal.add_task-sum-requires
+add_task-sum-requires g c = omega (arith, c.loop-position.invariant.0, c.args.tasks.now.few)
 
 pub loop-position-preserved : goal.loop-position-preserved
 loop-position-preserved g c =
@@ -22,10 +22,10 @@ loop-position-preserved g c =
     let i = c.loop-position.position in
     let time = get_or c.args.times.now i 0 in
     let f = λ (i : ℕ). charge p (map plain held) i (get_or c.args.times.now i 0) in
-    let one = charge_at p held c.as-slice-task-items.result.now c.as-slice-task-items.ensures.items i c.task-item.result time
+    let one = charge_at p held c.as_slice-task-items.result.now c.as_slice-task-items.ensures.items i c.task-item.result time
     c.loop-position-test.true c.task-item.is in (
-      omega (arith, c.add-task-sum.ensures.covers, c.loop-position.invariant.0),
-      c.add-task-sum.ensures.value ∙ ap (p.joined c.loop-position.sum) one
+      omega (arith, c.add_task-sum.ensures.covers, c.loop-position.invariant.0),
+      c.add_task-sum.ensures.value ∙ ap (p.joined c.loop-position.sum) one
           ∙ ap (λ sum. p.joined sum (charge p (map plain held) i time)) c.loop-position.invariant.1
           ∙ sym (join_next p i f),
     )
@@ -34,7 +34,7 @@ pub returns : goal.returns
 returns g c =
     let p = g.C.Cost.prices c.args.cost.now in
     let held = items c.args.tasks.now in
-    let count = count_plain held c.as-slice-task-items.result.now c.as-slice-task-items.ensures.items in
+    let count = count_plain held c.as_slice-task-items.result.now c.as_slice-task-items.ensures.items in
     let end : c.loop-position.position ≡ length (map plain held) = omega arith in
     record {
       value = c.loop-position.invariant.1 ∙ ap (λ n. join_below p n (λ i. charge p (map plain held) i (get_or c.args.times.now i 0))) end;

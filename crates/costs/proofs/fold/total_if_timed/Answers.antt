@@ -12,38 +12,38 @@ loop-position-init g c =
     let f = λ (i : ℕ). charge_if_timed p (map plain (items c.args.tasks.now)) i (get_or c.args.times.now i None) in
     (rw (c.none-sum.ensures, laws.covers_none) (omega arith), join_all_none p f ∙ ap Some (sym c.none-sum.ensures))
 
-pub add-task-sum-requires : goal.add-task-sum-requires
-add-task-sum-requires g c = omega (arith, c.loop-position.invariant.0, c.args.tasks.now.few)
+pub add_task-sum-requires : goal.add_task-sum-requires
+add_task-sum-requires g c = omega (arith, c.loop-position.invariant.0, c.args.tasks.now.few)
 
 pub loop-position-preserved : goal.loop-position-preserved
 loop-position-preserved g c =
     let p = g.C.Cost.prices c.args.cost.now in
     let held = items c.args.tasks.now in
     let i = c.loop-position.position in
-    let time = c.in-ok-times.field-0 in
+    let time = c.in_ok-times.field-0 in
     let f = λ (i : ℕ). charge_if_timed p (map plain held) i (get_or c.args.times.now i None) in
-    let one = charge_at p held c.as-slice-task-items.result.now c.as-slice-task-items.ensures.items i c.task-item.result time
+    let one = charge_at p held c.as_slice-task-items.result.now c.as_slice-task-items.ensures.items i c.task-item.result time
     c.loop-position-test.true c.task-item.is in (
-      omega (arith, c.add-task-sum.ensures.covers, c.loop-position.invariant.0),
+      omega (arith, c.add_task-sum.ensures.covers, c.loop-position.invariant.0),
       join_all_next p i f c.loop-position.sum (charge p (map plain held) i time) c.loop-position.invariant.1
-          (ap (charge_if_timed p (map plain held) i) c.in-ok-times.was)
-          ∙ ap Some (ap (p.joined c.loop-position.sum) (sym one) ∙ sym c.add-task-sum.ensures.value),
+          (ap (charge_if_timed p (map plain held) i) c.in_ok-times.was)
+          ∙ ap Some (ap (p.joined c.loop-position.sum) (sym one) ∙ sym c.add_task-sum.ensures.value),
     )
 
-pub returns-in-err-times : goal.returns-in-err-times
-returns-in-err-times g c =
+pub returns-in_err-times : goal.returns-in_err-times
+returns-in_err-times g c =
     let p = g.C.Cost.prices c.args.cost.now in
     let held = items c.args.tasks.now in
     let i = c.loop-position.position in
     let f = λ (i : ℕ). charge_if_timed p (map plain held) i (get_or c.args.times.now i None) in
-    let count = count_plain held c.as-slice-task-items.result.now c.as-slice-task-items.ensures.items in
+    let count = count_plain held c.as_slice-task-items.result.now c.as_slice-task-items.ensures.items in
     c.from-residual.ensures
-    ∙ sym (join_all_missing p i (length (map plain held)) f (omega arith) (ap (charge_if_timed p (map plain held) i) c.in-err-times.was))
+    ∙ sym (join_all_missing p i (length (map plain held)) f (omega arith) (ap (charge_if_timed p (map plain held) i) c.in_err-times.was))
 
 pub returns : goal.returns
 returns g c =
     let p = g.C.Cost.prices c.args.cost.now in
     let held = items c.args.tasks.now in
-    let count = count_plain held c.as-slice-task-items.result.now c.as-slice-task-items.ensures.items in
+    let count = count_plain held c.as_slice-task-items.result.now c.as_slice-task-items.ensures.items in
     let end : length (map plain held) ≡ c.loop-position.position = omega arith in
     sym (ap (λ n. join_all_below p n (λ i. charge_if_timed p (map plain held) i (get_or c.args.times.now i None))) end ∙ c.loop-position.invariant.1)

@@ -6,5 +6,5 @@ use Rattle.plan.proofs.held.without_task.Goals as goal
 
 pub returns : goal.returns
 returns c =
-    left_out c.as-slice-tasks.result.now c.args.at _ _ _ c.new-without.ensures.items c.extend.ensures.items c.extend-2.ensures.items
-    ∙ ap (λ ts. remove (map plain ts) c.args.at) c.as-slice-tasks.ensures.items
+    left_out c.as_slice-tasks.result.now c.args.at _ _ _ c.new-without.ensures.items c.extend.ensures.items c.extend-2.ensures.items
+    ∙ ap (λ ts. remove (map plain ts) c.args.at) c.as_slice-tasks.ensures.items

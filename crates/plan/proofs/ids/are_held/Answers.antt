@@ -7,13 +7,13 @@ use Rattle.plan.proofs.ids.are_held.Goals as goal
 pub loop-id-init : goal.loop-id-init
 loop-id-init c = every_none (held_if_in c.args.ids.word (map plain c.args.tasks.now))
 
-pub returns-then-not-held-if-in : goal.returns-then-not-held-if-in
-returns-then-not-held-if-in c =
-    sym (every_fails (held_if_in c.args.ids.word (map plain c.args.tasks.now)) 64 c.loop-id.id (omega arith) (sym c.held_if_in.ensures ∙ c.if-not-held-if-in.true))
+pub returns-then-not-held_if_in : goal.returns-then-not-held_if_in
+returns-then-not-held_if_in c =
+    sym (every_fails (held_if_in c.args.ids.word (map plain c.args.tasks.now)) 64 c.loop-id.id (omega arith) (sym c.held_if_in.ensures ∙ c.if-not-held_if_in.true))
 
 pub loop-id-preserved : goal.loop-id-preserved
 loop-id-preserved c =
-    every_next (held_if_in c.args.ids.word (map plain c.args.tasks.now)) c.loop-id.id c.loop-id.invariant (sym c.held_if_in.ensures ∙ c.if-not-held-if-in.false)
+    every_next (held_if_in c.args.ids.word (map plain c.args.tasks.now)) c.loop-id.id c.loop-id.invariant (sym c.held_if_in.ensures ∙ c.if-not-held_if_in.false)
 
 pub returns : goal.returns
 returns c =

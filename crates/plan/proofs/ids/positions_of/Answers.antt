@@ -10,8 +10,8 @@ use Rattle.plan.proofs.Words.{sum_none, bit_in, bit_out}
 use Rattle.plan.proofs.ids.positions_of.Goals as goal
 use Rattle.plan.proofs.ids.positions_of.Goals.{then-contains, else-contains}
 
-pub overflow-add-word : goal.overflow-add-word
-overflow-add-word c =
+pub overflow_add-word : goal.overflow_add-word
+overflow_add-word c =
     let i = c.loop-i.i in
     let bit : (1 * 2 ^ i) % 2 ^ 64 ≡ 2 ^ i = one_shl i 64 (omega arith) in
     let low : 2 ^ i ≤ 2 ^ 16 = pow-le-pow_right {n = 2} (omega arith) {i = i} {j = 16} (omega arith) in

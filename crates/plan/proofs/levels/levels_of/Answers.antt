@@ -19,8 +19,8 @@ bounds-levels-level c =
     let long : length r.order ≡ 16 = search rules in
     omega (arith, c.level-level-end.ensures, c.loop-level-test.true, length-take (members r.placed.word) r.order)
 
-pub offset-bounds-levels-level : goal.offset-bounds-levels-level
-offset-bounds-levels-level c =
+pub offset_bounds-levels-level : goal.offset_bounds-levels-level
+offset_bounds-levels-level c =
     let r = c.args.best.now in
     let long : length r.order ≡ 16 = search rules in
     let low : c.loop-level.level < 16 = omega (arith, c.level-level-end.ensures, c.loop-level-test.true, length-take (members r.placed.word) r.order) in
@@ -35,7 +35,7 @@ loop-level-preserved c =
     let inside : l < length (ranks r) = omega (arith, c.level-level-end.ensures, c.loop-level-test.true) in
     let low : l < 16 = omega (arith, length-take (members r.placed.word) r.order) in
     let here : get_or (ranks r) l 0 ≡ get_or r.order l 0 = get_or-take (members r.placed.word) r.order l 0 (omega (arith, length-take (members r.placed.word) r.order)) in
-    let same : (c.id-at.result, c.time-at.result) ≡ seen cs r.times (get_or r.order l 0) = λ i. (c.id-at.ensures i, c.time-at.ensures i) in (
+    let same : (c.id_at.result, c.time_at.result) ≡ seen cs r.times (get_or r.order l 0) = λ i. (c.id_at.ensures i, c.time_at.ensures i) in (
       level_more c.loop-level.levels (ranks r) (seen cs r.times) l _ (omega (arith, c.loop-level.invariant.1)) inside
           (same ∙ ap (seen cs r.times) (sym here)) c.loop-level.invariant.0,
       length-set c.loop-level.levels l _ ∙ c.loop-level.invariant.1,

@@ -16,7 +16,7 @@ loop-command-preserved g c =
     (vec_items c.loop-command.answers) (means g.T.Admission g.T.ResponseTest g.C.Cost c.loop-command.plan)
     c.loop-command.plan c.apply.new.self c.loop-command.out c.apply.new.out c.apply.result
     c.loop-command-test.true inv.2 inv.3 same done in
-    (omega arith, omega arith, rw c.push-reserved.ensures.items more.0, more.1, done.test ∙ inv.4, done.cost ∙ inv.5)
+    (omega arith, omega arith, rw c.push_reserved.ensures.items more.0, more.1, done.test ∙ inv.4, done.cost ∙ inv.5)
 
 pub returns : goal.returns
 returns g c =

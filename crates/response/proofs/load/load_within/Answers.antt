@@ -19,17 +19,17 @@ returns-then-load-limit c =
     sym (up_to_past _ _ (omega arith))
 
 -- what one task adds
-added : (c : goal.After-periods-begun) → c.periods-begun.result * c.index-tasks-position.result.execution ≤ c.args.w + c.index-tasks-position.result.period
+added : (c : goal.After-periods_begun) → c.periods_begun.result * c.index-tasks-position.result.execution ≤ c.args.w + c.index-tasks-position.result.period
 added c =
     let t = c.index-tasks-position.result in
     let bound = ceiling_bound c.args.w t.period t.execution (omega arith) t.in_period in
-    subst (λ (x : ℕ). x * t.execution ≤ c.args.w + t.period) (sym c.periods-begun.ensures) bound
+    subst (λ (x : ℕ). x * t.execution ≤ c.args.w + t.period) (sym c.periods_begun.ensures) bound
 
-pub overflow-mul-load : goal.overflow-mul-load
-overflow-mul-load c = let bound = added c in omega arith
+pub overflow_mul-load : goal.overflow_mul-load
+overflow_mul-load c = let bound = added c in omega arith
 
-pub overflow-add-load : goal.overflow-add-load
-overflow-add-load c = let bound = added c in omega arith
+pub overflow_add-load : goal.overflow_add-load
+overflow_add-load c = let bound = added c in omega arith
 
 pub loop-position-preserved : goal.loop-position-preserved
 loop-position-preserved c =
@@ -41,7 +41,7 @@ loop-position-preserved c =
     elim c.if-contains.branch [
       | then-contains w ↦
           let held = load_task tasks h c.args.w j t c.loop-position-test.true c.index-tasks-position.is (sym w.if-contains.ensures) in
-          let exact = ap (λ (x : ℕ). x * t.execution) w.periods-begun.ensures in
+          let exact = ap (λ (x : ℕ). x * t.execution) w.periods_begun.ensures in
           omega (arith, w.load-is)
       | else-contains w ↦
           let other = load_other (timed tasks) h c.args.w j (sym w.if-contains.ensures) in

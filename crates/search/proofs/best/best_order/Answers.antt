@@ -26,8 +26,8 @@ returns g c all =
     let answer = g.T.ResponseTest.answer c.args.test.now in
     let prices = g.C.Cost.prices c.args.cost.now in
     let from = was_started (first_over answer prices held) (length held) c.start.result _ _ c.if-not-start.false c.start.ensures.started in
-    let count = c.vertex-bound.result in
+    let count = c.vertex_bound.result in
     let walked = c.advance.ensures in
     let reached = walked.reached 0 (from.first, from.is_first, from.is_begun) in
-    let done = walked.ends (0 + count) reached (omega (arith, c.vertex-bound.ensures)) in
+    let done = walked.ends (0 + count) reached (omega (arith, c.vertex_bound.ensures)) in
     subst (BestOver answer prices held) (sym c.best.ensures) (walked.best (0 + count) reached all done)

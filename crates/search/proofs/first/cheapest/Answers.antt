@@ -11,7 +11,7 @@ use Rattle.search.proofs.first.cheapest.Goals as goal
 pub cheaper-requires : goal.cheaper-requires
 cheaper-requires g c =
     let l = c.args.tasks.now in
-    let size = count_plain (items l) c.as-slice-held.result.now c.as-slice-held.ensures.items in
+    let size = count_plain (items l) c.as_slice-held.result.now c.as_slice-held.ensures.items in
     let le = c.loop-position.auto.position in
     (omega (arith, c.loop-position-test.true), both_low (length (plains l)) c.args.unplaced.word c.loop-position.best c.loop-position.invariant.0)
 
@@ -22,7 +22,7 @@ loop-position-init g c =
     let n = length held in
     let answer = g.T.ResponseTest.answer c.args.test.now (timings held) in
     let costs = priced (g.C.Cost.prices c.args.cost.now) held in
-    let slice = c.as-slice-held in
+    let slice = c.as_slice-held in
     let size = count_plain (items l) slice.result.now slice.ensures.items in
     let few = slice.ensures.len in
     (tt, λ lower e. sym (ap (cheapest n answer costs lower) (ap (lacking_from n lower) (sym size) ∙ lacking_none n lower)))
@@ -34,7 +34,7 @@ loop-position-preserved-in-Some g c =
     let n = length held in
     let answer = g.T.ResponseTest.answer c.args.test.now (timings held) in
     let costs = priced (g.C.Cost.prices c.args.cost.now) held in
-    let slice = c.as-slice-held in
+    let slice = c.as_slice-held in
     let size = count_plain (items l) slice.result.now slice.ensures.items in
     let few = slice.ensures.len in
     let i = c.loop-position.position in
@@ -50,21 +50,21 @@ loop-position-preserved-in-Some g c =
           (c.without.ensures.removed (omega (arith, l.few))) member),
     )
 
-pub loop-position-preserved-in-default : goal.loop-position-preserved-in-default
-loop-position-preserved-in-default g c =
+pub loop-position-preserved-in_default : goal.loop-position-preserved-in_default
+loop-position-preserved-in_default g c =
     let l = c.args.tasks.now in
     let held = plains l in
     let n = length held in
     let answer = g.T.ResponseTest.answer c.args.test.now (timings held) in
     let costs = priced (g.C.Cost.prices c.args.cost.now) held in
-    let slice = c.as-slice-held in
+    let slice = c.as_slice-held in
     let size = count_plain (items l) slice.result.now slice.ensures.items in
     let few = slice.ensures.len in
     let i = c.loop-position.position in
     let w = c.args.unplaced.word in
     let inv = c.loop-position.invariant in
     let le = c.loop-position.auto.position in
-    let answered = c.in-default.ensures ∙ asked (g.T.ResponseTest.answer c.args.test.now) (items l) slice.result.now slice.ensures.items (i - 1) c.without.result.word in
+    let answered = c.in_default.ensures ∙ asked (g.T.ResponseTest.answer c.args.test.now) (items l) slice.result.now slice.ensures.items (i - 1) c.without.result.word in
     let member = sym c.contains.ensures ∙ c.if-contains.true in (
       inv.0,
       λ lower e.
@@ -80,7 +80,7 @@ loop-position-preserved g c =
     let n = length held in
     let answer = g.T.ResponseTest.answer c.args.test.now (timings held) in
     let costs = priced (g.C.Cost.prices c.args.cost.now) held in
-    let slice = c.as-slice-held in
+    let slice = c.as_slice-held in
     let size = count_plain (items l) slice.result.now slice.ensures.items in
     let few = slice.ensures.len in
     let inv = c.loop-position.invariant in

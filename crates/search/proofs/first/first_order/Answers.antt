@@ -17,27 +17,27 @@ use Rattle.search.proofs.Rankings.{zeros, brief_more}
 use Rattle.search.proofs.Lowers.{lower, timed, Filled, lower_none, lower_more, all_left, above_late, above_more, pick_free, word_full, take_full, order_full}
 use Rattle.search.proofs.first.first_order.Goals as goal
 
-pub overflow-cast-order : goal.overflow-cast-order
-overflow-cast-order g c =
+pub overflow_cast-order : goal.overflow_cast-order
+overflow_cast-order g c =
     let l = c.args.tasks.now in
-    let size = count_plain (items l) c.as-slice-held.result.now c.as-slice-held.ensures.items in
-    let low : c.in-ok-pick.pick.position < 16
-    = omega (arith, c.in-ok-pick.ensures.among.low, c.as-slice-held.ensures.len, l.few) in
+    let size = count_plain (items l) c.as_slice-held.result.now c.as_slice-held.ensures.items in
+    let low : c.in_ok-pick.pick.position < 16
+    = omega (arith, c.in_ok-pick.ensures.among.low, c.as_slice-held.ensures.len, l.few) in
     search rules
 
-pub offset-bounds-times-pick : goal.offset-bounds-times-pick
-offset-bounds-times-pick g c =
+pub offset_bounds-times-pick : goal.offset_bounds-times-pick
+offset_bounds-times-pick g c =
     let l = c.args.tasks.now in
-    let size = count_plain (items l) c.as-slice-held.result.now c.as-slice-held.ensures.items in
-    let low : c.in-ok-pick.pick.position < 16
-    = omega (arith, c.in-ok-pick.ensures.among.low, c.as-slice-held.ensures.len, l.few) in
+    let size = count_plain (items l) c.as_slice-held.result.now c.as_slice-held.ensures.items in
+    let low : c.in_ok-pick.pick.position < 16
+    = omega (arith, c.in_ok-pick.ensures.among.low, c.as_slice-held.ensures.len, l.few) in
     search rules
 
 pub bounds-times-pick : goal.bounds-times-pick
 bounds-times-pick g c =
     let l = c.args.tasks.now in
-    let size = count_plain (items l) c.as-slice-held.result.now c.as-slice-held.ensures.items in
-    omega (arith, c.in-ok-pick.ensures.among.low, c.as-slice-held.ensures.len, l.few)
+    let size = count_plain (items l) c.as_slice-held.result.now c.as_slice-held.ensures.items in
+    omega (arith, c.in_ok-pick.ensures.among.low, c.as_slice-held.ensures.len, l.few)
 
 pub loop-level-init : goal.loop-level-init
 loop-level-init g c =
@@ -46,7 +46,7 @@ loop-level-init g c =
     let n = length held in
     let answer = g.T.ResponseTest.answer c.args.test.now (timings held) in
     let costs = priced (g.C.Cost.prices c.args.cost.now) held in
-    let slice = c.as-slice-held in
+    let slice = c.as_slice-held in
     let size = count_plain (items l) slice.result.now slice.ensures.items in
     let few = slice.ensures.len in
     let blank : List ℕ = replicate 16 0 in
@@ -69,21 +69,21 @@ loop-level-preserved g c =
     let n = length held in
     let answer = g.T.ResponseTest.answer c.args.test.now (timings held) in
     let costs = priced (g.C.Cost.prices c.args.cost.now) held in
-    let slice = c.as-slice-held in
+    let slice = c.as_slice-held in
     let size = count_plain (items l) slice.result.now slice.ensures.items in
     let few = slice.ensures.len in
     let k = c.loop-level.level in
     let pos = c.loop-level-test.true in
     let le = c.loop-level.auto.level in
     let inv = c.loop-level.invariant in
-    let p = c.in-ok-pick.pick.position in
-    let t = c.in-ok-pick.pick.time in
+    let p = c.in_ok-pick.pick.position in
+    let t = c.in_ok-pick.pick.time in
     let order = c.loop-level.order in
     let times = c.loop-level.times in
     let v = lower n k order in
-    let among = c.in-ok-pick.ensures.among in
+    let among = c.in_ok-pick.ensures.among in
     let free = pick_free n c.loop-level.unplaced.word p v inv.4 (omega (arith, among.low)) among.member in
-    let picked = sym (c.in-ok-pick.ensures.value v inv.4) in
+    let picked = sym (c.in_ok-pick.ensures.value v inv.4) in
     let more = sym (lower_more n k p order pos (omega arith) (omega (arith, inv.0, l.few))) in (
       length-set order (k - 1) p ∙ inv.0,
       length-set times p t ∙ inv.1,
@@ -96,31 +96,31 @@ loop-level-preserved g c =
           ∙ sym (above_more n answer costs k v times pos p t picked free.not_placed (omega (arith, inv.1, among.low, l.few))) ∙ inv.5,
     )
 
-pub returns-in-err-pick : goal.returns-in-err-pick
-returns-in-err-pick g c =
+pub returns-in_err-pick : goal.returns-in_err-pick
+returns-in_err-pick g c =
     let l = c.args.tasks.now in
     let held = plains l in
     let n = length held in
     let answer = g.T.ResponseTest.answer c.args.test.now (timings held) in
     let costs = priced (g.C.Cost.prices c.args.cost.now) held in
-    let slice = c.as-slice-held in
+    let slice = c.as_slice-held in
     let size = count_plain (items l) slice.result.now slice.ensures.items in
     let few = slice.ensures.len in
     let inv = c.loop-level.invariant in
     let v = lower n c.loop-level.level c.loop-level.order in
     record {
       value = ap (option_map ranked) c.from-residual.ensures
-          ∙ sym (above_late n answer costs c.loop-level.level v c.loop-level.times c.loop-level-test.true (sym (c.in-err-pick.ensures.value v inv.4))) ∙ inv.5;
+          ∙ sym (above_late n answer costs c.loop-level.level v c.loop-level.times c.loop-level-test.true (sym (c.in_err-pick.ensures.value v inv.4))) ∙ inv.5;
       order = subst (λ o. IfSome o (λ a. Order n (ranks a))) (sym c.from-residual.ensures) tt;
       exact = λ all. first_order_is_exact _ n answer costs (monotone_of (g.T.Admission.admitted c.args.test.now) (g.T.ResponseTest.answer c.args.test.now) (g.met.T.ResponseTest.monotone c.args.test.now) held (held_of (items l) (g.T.Admission.admitted c.args.test.now) all));
       greedy = first_order_is_greedy _ n answer costs (laws_of (g.C.Cost.prices c.args.cost.now) (g.met.C.Cost.lawful c.args.cost.now) held);
     }
 
-pub invariant-of-result : goal.invariant-of-result
-invariant-of-result g c =
+pub invariant_of-result : goal.invariant_of-result
+invariant_of-result g c =
     let l = c.args.tasks.now in
     let n = length (plains l) in
-    let slice = c.as-slice-held in
+    let slice = c.as_slice-held in
     let size = count_plain (items l) slice.result.now slice.ensures.items in
     let few = slice.ensures.len in
     let order = c.loop-level.order in
@@ -146,7 +146,7 @@ returns g c =
     let n = length held in
     let answer = g.T.ResponseTest.answer c.args.test.now (timings held) in
     let costs = priced (g.C.Cost.prices c.args.cost.now) held in
-    let slice = c.as-slice-held in
+    let slice = c.as_slice-held in
     let size = count_plain (items l) slice.result.now slice.ensures.items in
     let few = slice.ensures.len in
     let order = c.loop-level.order in

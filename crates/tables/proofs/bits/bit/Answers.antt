@@ -5,5 +5,5 @@ use Rattle.tables.proofs.bits.bit.Goals as goal
 
 pub returns : goal.returns
 returns c =
-    let under = All-from_get_or (λ b. b < 256) c.args.bytes.now 0 (λ i _. (c.type-inv.bytes i).fits) in
+    let under = All-from_get_or (λ b. b < 256) c.args.bytes.now 0 (λ i _. (c.type_inv.bytes i).fits) in
     ap (λ n. n % 2) c.from.ensures ∙ sym (field_bit c.args.bytes.now c.args.at under c.requires)

@@ -4,14 +4,14 @@ use Rattle.tables.proofs.record.read_fields.Goals as goal
 -- each field begins where the one before it ended
 pub returns : goal.returns
 returns c =
-    let id = c.in-ok-id.ensures in
-    let tier = c.in-ok-tier.ensures in
-    let spare = c.in-ok-spare.ensures in
-    let weight = c.in-ok-weight.ensures in
-    let section = c.in-ok-section.ensures in
-    let execution = c.in-ok-execution.ensures in
-    let deadline = c.in-ok-deadline.ensures in
-    let period = c.in-ok-period.ensures in
+    let id = c.in_ok-id.ensures in
+    let tier = c.in_ok-tier.ensures in
+    let spare = c.in_ok-spare.ensures in
+    let weight = c.in_ok-weight.ensures in
+    let section = c.in_ok-section.ensures in
+    let execution = c.in_ok-execution.ensures in
+    let deadline = c.in_ok-deadline.ensures in
+    let period = c.in_ok-period.ensures in
     let at-tier : c.take.new.self.at ≡ 6 = omega (arith, id.taken.2) in
     let at-spare : c.take-2.new.self.at ≡ 7 = omega (arith, tier.taken.2) in
     let at-weight : c.take-3.new.self.at ≡ 8 = omega (arith, spare.taken.2) in

@@ -5,17 +5,17 @@ use Rattle.tables.specs.Tables.{decoded}
 use Rattle.tables.proofs.Pairing.{pairs, table_made}
 use Rattle.tables.proofs.table.decode.Goals as goal
 
-pub returns-in-err-header : goal.returns-in-err-header
-returns-in-err-header g c = record {
+pub returns-in_err-header : goal.returns-in_err-header
+returns-in_err-header g c = record {
   value = search rules;
   table = IfOk-from_err c.from-residual.result _ c.from-residual.ensures.0;
   pairs = pairs (g.T.Admission.admitted c.args.test.now) c.args.codes.test c.args.codes.cost c.args.codes.tests c.args.codes.costs;
 }
 
-pub returns-in-err-check-header : goal.returns-in-err-check-header
-returns-in-err-check-header g c = record {
+pub returns-in_err-check_header : goal.returns-in_err-check_header
+returns-in_err-check_header g c = record {
   value = search rules;
-  table = IfOk-from_err c.from-residual-in-err-check-header.result _ c.from-residual-in-err-check-header.ensures.0;
+  table = IfOk-from_err c.from-residual-in_err-check_header.result _ c.from-residual-in_err-check_header.ensures.0;
   pairs = pairs (g.T.Admission.admitted c.args.test.now) c.args.codes.test c.args.codes.cost c.args.codes.tests c.args.codes.costs;
 }
 
@@ -28,9 +28,9 @@ returns-then-records-header g c = record {
 
 pub returns : goal.returns
 returns g c =
-    let value : plainly c.read-tasks.result ≡ decoded (g.T.Admission.admitted c.args.test.now) c.args.codes.test c.args.codes.cost c.args.file.now = search rules in
+    let value : plainly c.read_tasks.result ≡ decoded (g.T.Admission.admitted c.args.test.now) c.args.codes.test c.args.codes.cost c.args.file.now = search rules in
     record {
       value = value;
-      table = table_made (g.T.Admission.admitted c.args.test.now) c.args.codes.test c.args.codes.cost c.args.codes.tests c.args.codes.costs c.read-tasks.result c.args.file.now c.type-inv.file value;
+      table = table_made (g.T.Admission.admitted c.args.test.now) c.args.codes.test c.args.codes.cost c.args.codes.tests c.args.codes.costs c.read_tasks.result c.args.file.now c.type_inv.file value;
       pairs = pairs (g.T.Admission.admitted c.args.test.now) c.args.codes.test c.args.codes.cost c.args.codes.tests c.args.codes.costs;
     }

@@ -15,21 +15,21 @@ pub returns-then-held-ge16 : goal.returns-then-held-ge16
 returns-then-held-ge16 g c =
     let p = c.args.self.now in
     let w = means g.T.Admission g.T.ResponseTest g.C.Cost p in
-    let held : plains p.tasks ≡ map plain c.as-slice-held.result.now = ap (map plain) (sym c.as-slice-held.ensures.items) in
+    let held : plains p.tasks ≡ map plain c.as_slice-held.result.now = ap (map plain) (sym c.as_slice-held.ensures.items) in
     λ b. turned_down w (Add c.args.candidate) p b (Plan Full)
-    (add_full w (model p) b c.requires c.args.candidate c.in-ok-task.task c.timing.result c.as-slice-held.result.now
-    c.find.result c.admits.result c.is-some.result c.in-ok-task.ensures c.timing.ensures c.admits.ensures c.if-not-admits.false
-    c.find.ensures c.is-some.ensures c.if-is-some.false held c.if-held-ge16.true)
+    (add_full w (model p) b c.requires c.args.candidate c.in_ok-task.task c.timing.result c.as_slice-held.result.now
+    c.find.result c.admits.result c.is_some.result c.in_ok-task.ensures c.timing.ensures c.admits.ensures c.if-not-admits.false
+    c.find.ensures c.is_some.ensures c.if-is_some.false held c.if-held-ge16.true)
 
 pub returns : goal.returns
 returns g c =
     let p = c.args.self.now in
     let w = means g.T.Admission g.T.ResponseTest g.C.Cost p in
-    let held : plains p.tasks ≡ map plain c.as-slice-held.result.now = ap (map plain) (sym c.as-slice-held.ensures.items) in
-    let more : plains c.with-task-self.result ≡ inserted c.args.candidate (plains p.tasks)
-    = c.with-task-self.ensures ∙ ap (λ t. inserted t (plains p.tasks)) c.in-ok-task.ensures.1 in
+    let held : plains p.tasks ≡ map plain c.as_slice-held.result.now = ap (map plain) (sym c.as_slice-held.ensures.items) in
+    let more : plains c.with_task-self.result ≡ inserted c.args.candidate (plains p.tasks)
+    = c.with_task-self.ensures ∙ ap (λ t. inserted t (plains p.tasks)) c.in_ok-task.ensures.1 in
     λ b. accepted w (Add c.args.candidate) p b _ Done
-    (add_passes w (model p) b c.requires c.args.candidate c.in-ok-task.task c.timing.result c.as-slice-held.result.now
-    c.find.result c.admits.result c.is-some.result c.in-ok-task.ensures c.timing.ensures c.admits.ensures c.if-not-admits.false
-    c.find.ensures c.is-some.ensures c.if-is-some.false held c.if-held-ge16.false)
+    (add_passes w (model p) b c.requires c.args.candidate c.in_ok-task.task c.timing.result c.as_slice-held.result.now
+    c.find.result c.admits.result c.is_some.result c.in_ok-task.ensures c.timing.ensures c.admits.ensures c.if-not-admits.false
+    c.find.ensures c.is_some.ensures c.if-is_some.false held c.if-held-ge16.false)
     (ap (λ ts. reply Done (opened ts) b) more) refl refl

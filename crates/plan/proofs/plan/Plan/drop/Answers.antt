@@ -8,5 +8,5 @@ use Rattle.plan.proofs.plan.Plan.drop.Goals as goal
 pub returns-in-Open : goal.returns-in-Open
 returns-in-Open g c =
     let p = c.args.self.now in
-    called done (means g.T.Admission g.T.ResponseTest g.C.Cost p) (Drop c.args.id) p c.drop-task.new.self [] c.drop-task.result c.as-done.result
-    (c.drop-task.ensures []) c.as-done.ensures
+    called done (means g.T.Admission g.T.ResponseTest g.C.Cost p) (Drop c.args.id) p c.drop_task.new.self [] c.drop_task.result c.as_done.result
+    (c.drop_task.ensures []) c.as_done.ensures

@@ -13,9 +13,9 @@ use Rattle.plan.proofs.Edits.{without_at}
 use Rattle.plan.proofs.Replies.{accepted, drop_passes}
 use Rattle.plan.proofs.plan.Plan.drop_task.Goals as goal
 
-pub without-task-self-requires : goal.without-task-self-requires
-without-task-self-requires g c =
-    omega (arith, c.in-Some.ensures.2, c.as-slice.ensures.len, length-map c.as-slice.result.now plain)
+pub without_task-self-requires : goal.without_task-self-requires
+without_task-self-requires g c =
+    omega (arith, c.in-Some.ensures.2, c.as_slice.ensures.len, length-map c.as_slice.result.now plain)
 
 pub returns : goal.returns
 returns g c =
@@ -23,8 +23,8 @@ returns g c =
     let w = means g.T.Admission g.T.ResponseTest g.C.Cost p in
     let cs = plains p.tasks in
     let id = c.args.id in
-    let known : has id cs ≡ true = rw c.as-slice.ensures.items at c.in-Some.ensures.0 in
-    let at : c.in-Some.at ≡ place id cs = rw c.as-slice.ensures.items at c.in-Some.ensures.1 in
-    let left : plains c.without-task-self.result ≡ without id cs
-    = c.without-task-self.ensures ∙ ap (remove cs) at ∙ sym (without_at id cs known) in
+    let known : has id cs ≡ true = rw c.as_slice.ensures.items at c.in-Some.ensures.0 in
+    let at : c.in-Some.at ≡ place id cs = rw c.as_slice.ensures.items at c.in-Some.ensures.1 in
+    let left : plains c.without_task-self.result ≡ without id cs
+    = c.without_task-self.ensures ∙ ap (remove cs) at ∙ sym (without_at id cs known) in
     λ b. accepted w (Drop id) p b _ Done (drop_passes w (model p) b c.requires id known) (ap (λ ts. reply Done (opened ts) b) left) refl refl

@@ -10,8 +10,8 @@ advance-progress-requires g c =
     let p = c.args.self.now in
     during p.state (length (plains p.tasks)) p.search.size c.requires p.matched
 
-pub overflow-cast-result : goal.overflow-cast-result
-overflow-cast-result g c =
+pub overflow_cast-result : goal.overflow_cast-result
+overflow_cast-result g c =
     let p = c.args.self.now in
     let cs = plains p.tasks in
     let few = stepped_few (length cs) (g.T.ResponseTest.answer p.test (timings cs)) (priced (g.C.Cost.prices p.cost) cs) c.args.count (state p.search) in

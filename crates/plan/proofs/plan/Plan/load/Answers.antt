@@ -8,5 +8,5 @@ use Rattle.plan.proofs.plan.Plan.load.Goals as goal
 pub returns-in-Open : goal.returns-in-Open
 returns-in-Open g c =
     let p = c.args.self.now in
-    called done (means g.T.Admission g.T.ResponseTest g.C.Cost p) (Load c.args.file) p c.replace-tasks.new.self [] c.replace-tasks.result c.as-done.result
-    (c.replace-tasks.ensures []) c.as-done.ensures
+    called done (means g.T.Admission g.T.ResponseTest g.C.Cost p) (Load c.args.file) p c.replace_tasks.new.self [] c.replace_tasks.result c.as_done.result
+    (c.replace_tasks.ensures []) c.as_done.ensures

@@ -7,5 +7,5 @@ use Rattle.plan.proofs.plan.Plan.report.Goals as goal
 pub returns-in-Finished : goal.returns-in-Finished
 returns-in-Finished g c =
     let p = c.args.self.now in
-    called_with reported (means g.T.Admission g.T.ResponseTest g.C.Cost p) Report p p c.args.out.now c.write-report.new.out c.write-report.result c.as-reported.result
-    c.write-report.ensures c.as-reported.ensures
+    called_with reported (means g.T.Admission g.T.ResponseTest g.C.Cost p) Report p p c.args.out.now c.write_report.new.out c.write_report.result c.as_reported.result
+    c.write_report.ensures c.as_reported.ensures

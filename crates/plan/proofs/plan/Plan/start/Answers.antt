@@ -8,5 +8,5 @@ use Rattle.plan.proofs.plan.Plan.start.Goals as goal
 pub returns-in-Open : goal.returns-in-Open
 returns-in-Open g c =
     let p = c.args.self.now in
-    called done (means g.T.Admission g.T.ResponseTest g.C.Cost p) Start p c.begin-search.new.self [] c.begin-search.result c.as-done.result
-    (c.begin-search.ensures []) c.as-done.ensures
+    called done (means g.T.Admission g.T.ResponseTest g.C.Cost p) Start p c.begin_search.new.self [] c.begin_search.result c.as_done.result
+    (c.begin_search.ensures []) c.as_done.ensures

@@ -8,5 +8,5 @@ use Rattle.plan.proofs.plan.Plan.stop.Goals as goal
 pub returns-in-Searching : goal.returns-in-Searching
 returns-in-Searching g c =
     let p = c.args.self.now in
-    called done (means g.T.Admission g.T.ResponseTest g.C.Cost p) Stop p c.end-search.new.self [] c.end-search.result c.as-done.result
-    (c.end-search.ensures []) c.as-done.ensures
+    called done (means g.T.Admission g.T.ResponseTest g.C.Cost p) Stop p c.end_search.new.self [] c.end_search.result c.as_done.result
+    (c.end_search.ensures []) c.as_done.ensures

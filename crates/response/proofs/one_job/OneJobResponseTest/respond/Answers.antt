@@ -11,6 +11,6 @@ returns c =
     let h = c.args.above.word in
     let t = c.index-tasks-position.result in
     c.settle.ensures
-    ∙ ap (λ (b : ℕ). settled ts h (t.execution + b) t.deadline) c.longest-below.ensures.exact
+    ∙ ap (λ (b : ℕ). settled ts h (t.execution + b) t.deadline) c.longest_below.ensures.exact
     ∙ ap (λ (s : Timing). settled ts h (s.execution + blocking ts c.args.position h) s.deadline)
     (sym (at_timed c.args.tasks.now c.args.position t c.requires c.index-tasks-position.is))

@@ -13,8 +13,8 @@ loop-job-init c =
     let long = timed_length tasks in
     so_far_start (timed tasks) (tasks_legal tasks) c.args.position (omega arith) c.args.above.word
 
-pub overflow-mul-job : goal.overflow-mul-job
-overflow-mul-job c =
+pub overflow_mul-job : goal.overflow_mul-job
+overflow_mul-job c =
     let t = c.index-tasks-position.result in
     let bound = mul-le c.loop-job.job t.execution 64 1048575 (omega arith) (omega arith) in
     omega arith
@@ -23,13 +23,13 @@ pub settle-requires : goal.settle-requires
 settle-requires c =
     let tasks = c.args.tasks.now in
     let t = c.index-tasks-position.result in
-    let here = at_timed tasks c.args.position t c.requires c.index-tasks-position.is in (
-      (omega arith, omega arith),
-      subst (λ (s : Timing). Under (timed tasks) c.args.above.word (c.loop-job.job * s.execution) (c.loop-job.end + s.execution)) here c.loop-job.invariant.warm,
-    )
+    let here = at_timed tasks c.args.position t c.requires c.index-tasks-position.is in (record {
+      start_bound = (omega arith, omega arith);
+      under = subst (λ (s : Timing). Under (timed tasks) c.args.above.word (c.loop-job.job * s.execution) (c.loop-job.end + s.execution)) here c.loop-job.invariant.warm;
+    })
 
-pub returns-in-err-end : goal.returns-in-err-end
-returns-in-err-end c =
+pub returns-in_err-end : goal.returns-in_err-end
+returns-in_err-end c =
     let tasks = c.args.tasks.now in
     let i = c.args.position in
     let h = c.args.above.word in
@@ -38,17 +38,17 @@ returns-in-err-end c =
     let busy-is = busy_by tasks i h j.job j.release c.index-tasks-position.result c.requires c.index-tasks-position.is j.invariant.released in
     c.from-residual.ensures
     ∙ sym (so_far_late (timed tasks) (tasks_legal tasks) i (omega arith) h j.job j.worst j.release j.end j.invariant
-    (omega arith) (sym busy-is ∙ sym c.in-err-end.ensures))
+    (omega arith) (sym busy-is ∙ sym c.in_err-end.ensures))
 
-pub overflow-sub-end : goal.overflow-sub-end
-overflow-sub-end c =
+pub overflow_sub-end : goal.overflow_sub-end
+overflow_sub-end c =
     let tasks = c.args.tasks.now in
     let i = c.args.position in
     let h = c.args.above.word in
     let j = c.loop-job in
     let busy-is = busy_by tasks i h j.job j.release c.index-tasks-position.result c.requires c.index-tasks-position.is j.invariant.released in
-    let a = settled_is (timed tasks) (tasks_legal tasks) h _ _ c.in-ok-end.end (sym busy-is ∙ sym c.in-ok-end.ensures) in
-    let later = j.invariant.warm.lowest c.in-ok-end.end a.0 a.1 in
+    let a = settled_is (timed tasks) (tasks_legal tasks) h _ _ c.in_ok-end.end (sym busy-is ∙ sym c.in_ok-end.ensures) in
+    let later = j.invariant.warm.lowest c.in_ok-end.end a.0 a.1 in
     omega arith
 
 pub returns-then-end-release : goal.returns-then-end-release
@@ -63,7 +63,7 @@ returns-then-end-release c =
     let busy-is = busy_by tasks i h j.job j.release t c.requires c.index-tasks-position.is j.invariant.released in
     ap Some c.max-worst.ensures
     ∙ sym (so_far_ends (timed tasks) (tasks_legal tasks) i (omega arith) h j.job j.worst j.release j.end j.invariant
-    c.in-ok-end.end (omega arith) (sym busy-is ∙ sym c.in-ok-end.ensures) (omega (arith, c.if-end-release.true)))
+    c.in_ok-end.end (omega arith) (sym busy-is ∙ sym c.in_ok-end.ensures) (omega (arith, c.if-end-release.true)))
 
 pub loop-job-preserved : goal.loop-job-preserved
 loop-job-preserved c =
@@ -72,13 +72,13 @@ loop-job-preserved c =
     let h = c.args.above.word in
     let j = c.loop-job in
     let t = c.index-tasks-position.result in
-    let end = c.in-ok-end.end in
+    let end = c.in_ok-end.end in
     let long = timed_length tasks in
     let period = ap (λ (s : Timing). s.period) (at_timed tasks i t c.requires c.index-tasks-position.is) in
     let busy-is = busy_by tasks i h j.job j.release t c.requires c.index-tasks-position.is j.invariant.released in
-    let within = (settled_is (timed tasks) (tasks_legal tasks) h _ _ end (sym c.in-ok-end.ensures)).2 in
+    let within = (settled_is (timed tasks) (tasks_legal tasks) h _ _ end (sym c.in_ok-end.ensures)).2 in
     let next = so_far_next (timed tasks) (tasks_legal tasks) i (omega arith) h j.job j.worst j.release j.end j.invariant
-    end (sym busy-is ∙ sym c.in-ok-end.ensures) (omega (arith, within)) (omega arith) (omega (arith, c.if-end-release.false)) in
+    end (sym busy-is ∙ sym c.in_ok-end.ensures) (omega (arith, within)) (omega arith) (omega (arith, c.if-end-release.false)) in
     subst₂ (λ (w r : ℕ). SoFar (timed tasks) i h (j.job + 1) w r end) (sym c.max-worst.ensures) (ap (λ (x : ℕ). j.release + x) period) next
 
 pub returns : goal.returns

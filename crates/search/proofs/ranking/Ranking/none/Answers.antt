@@ -4,9 +4,9 @@ use Rattle.tasks.specs.Sets.{members}
 use Rattle.search.proofs.Rankings.{zeros}
 use Rattle.search.proofs.ranking.Ranking.none.Goals as goal
 
-pub invariant-of-result : goal.invariant-of-result
+pub invariant_of-result : goal.invariant_of-result
 unfolding members sum_below
-invariant-of-result c = ((λ i. omega arith), ((λ i h. refl), (refl, (zeros, tt))))
+invariant_of-result c = ((λ i. omega arith), ((λ i h. refl), (refl, (zeros, tt))))
 
 pub returns : goal.returns
 unfolding members sum_below

@@ -6,8 +6,8 @@ use Rattle.search.proofs.ranking.Ranking.with.Goals as goal
 pub bounds-order-level : goal.bounds-order-level
 bounds-order-level c = omega (arith, room_left c.args.self.now c.args.task c.requires.0 c.requires.1)
 
-pub invariant-of-result : goal.invariant-of-result
-invariant-of-result c =
+pub invariant_of-result : goal.invariant_of-result
+invariant_of-result c =
     let r = c.args.self.now in
     let t = c.args.task in
     let w = c.with.result.word in

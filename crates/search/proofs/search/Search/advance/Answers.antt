@@ -68,15 +68,15 @@ returns g c =
     let test = c.args.test.now in
     let prices = g.C.Cost.prices c.args.cost.now in
     let end : s ≡ steps n answer costs c.args.count (state c.args.self.now) = sym (ap (λ k. steps n answer costs k s) zero_left) ∙ inv.2 in
-    let none : c.is-empty.result ≡ is_none s.active
-    = c.is-empty.ensures ∙ none_left (vec_len c.loop-examined.self.active) (vec_items c.loop-examined.self.active) c.loop-examined.self.active.ok.0 in
+    let none : c.is_empty.result ≡ is_none s.active
+    = c.is_empty.ensures ∙ none_left (vec_len c.loop-examined.self.active) (vec_items c.loop-examined.self.active) c.loop-examined.self.active.ok.0 in
     record {
       size = inv.0;
       state = end;
       examined = omega (arith, inv.3, ap (λ k. stepped n answer costs k s) zero_left);
       finished = none;
       reached = λ k. reached_more (g.T.ResponseTest.answer test) prices held k c.args.count (state c.args.self.now) s end;
-      ends = λ k r. reached_ends (g.T.ResponseTest.answer test) prices held k s r c.is-empty.result none;
+      ends = λ k r. reached_ends (g.T.ResponseTest.answer test) prices held k s r c.is_empty.result none;
       best = λ k r all. reached_best (g.T.ResponseTest.answer test) prices held k s r
-          (g.T.Admission.admitted test) (g.met.T.ResponseTest.monotone test) (g.met.C.Cost.lawful c.args.cost.now) (held_of (items c.args.tasks.now) (g.T.Admission.admitted test) all) c.is-empty.result none;
+          (g.T.Admission.admitted test) (g.met.T.ResponseTest.monotone test) (g.met.C.Cost.lawful c.args.cost.now) (held_of (items c.args.tasks.now) (g.T.Admission.admitted test) all) c.is_empty.result none;
     }

@@ -9,6 +9,6 @@ pub returns : goal.returns
 returns g c =
     let s = c.args.self.now in
     let l = c.args.tasks.now in
-    c.total-cost.ensures.value
+    c.total_cost.ensures.value
     ∙ total_is (g.C.Cost.prices c.args.cost.now) (g.met.C.Cost.lawful c.args.cost.now) (plains l)
     (λ i. get_or s.best.times i 0) (ranks s.best) (best_is_order s (length (plains l)) c.requires)

@@ -11,8 +11,8 @@ loop-position-init c =
     let none = left_none c.args.above.placed.word s.size in
     (refl, refl, ap (λ ks. map (λ i. record { ancestors = ranked c.args.above; task = i }) ks ++ map waiting (reverse (vec_items s.active))) (sym none))
 
-pub push-reserved-requires : goal.push-reserved-requires
-push-reserved-requires c =
+pub push_reserved-requires : goal.push_reserved-requires
+push_reserved-requires c =
     let s = c.loop-position.self in
     let base = c.args.self.now in
     let r = c.args.above in
@@ -22,14 +22,14 @@ push-reserved-requires c =
     (room_left r (c.loop-position.position - 1) (omega arith) (sym c.contains.ensures ∙ c.if-not-contains.true)) in
     omega arith
 
-pub invariant-of-self : goal.invariant-of-self
-invariant-of-self c =
+pub invariant_of-self : goal.invariant_of-self
+invariant_of-self c =
     let s = c.loop-position.self in
     let base = c.args.self.now in
     let place = place_left c.args.above (vec_items s.active) (vec_items base.active) c.loop-position.position s.size
     c.loop-position-test.true (omega arith) c.loop-position.invariant.2 s.few (omega (arith, c.requires.0, base.active.ok.0)) (sym c.contains.ensures ∙ c.if-not-contains.true) in
     let above = subst (λ n. all_below n (ranks c.args.above) ≡ true) (sym c.loop-position.invariant.0) c.requires.1 in
-    (s.few, (s.once, (s.no_other, (search rules, (pushed_sound _ (vec_items s.active) _ c.push-reserved.ensures.items s.size (omega arith) above place s.sound, tt)))))
+    (s.few, (s.once, (s.no_other, (search rules, (pushed_sound _ (vec_items s.active) _ c.push_reserved.ensures.items s.size (omega arith) above place s.sound, tt)))))
 
 pub loop-position-preserved : goal.loop-position-preserved
 loop-position-preserved c =
@@ -48,7 +48,7 @@ loop-position-preserved-then-not-contains c =
       inv.0,
       inv.1,
       entered c.args.above (vec_items s.active) (vec_items c.args.self.now.active) c.loop-position.position s.size
-          c.loop-position-test.true (omega arith) inv.2 _ _ c.push-reserved.ensures.items refl (sym c.contains.ensures ∙ c.if-not-contains.true),
+          c.loop-position-test.true (omega arith) inv.2 _ _ c.push_reserved.ensures.items refl (sym c.contains.ensures ∙ c.if-not-contains.true),
     )
 
 pub returns : goal.returns

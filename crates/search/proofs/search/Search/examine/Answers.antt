@@ -12,23 +12,23 @@ use Rattle.search.proofs.Stacks.{popped, off, popped_sound}
 use Rattle.search.proofs.Walks.{top_answered}
 use Rattle.search.proofs.search.Search.examine.Goals as goal
 
-pub invariant-of-self : goal.invariant-of-self
-invariant-of-self g c =
+pub invariant_of-self : goal.invariant_of-self
+invariant_of-self g c =
     let s = c.args.self.now in
     (s.few, (s.once, (s.no_other, (search rules, (popped_sound s.size (vec_items s.active) (vec_items c.pop.new.self) c.pop.result c.pop.ensures.items s.sound, tt)))))
 
 pub respond-requires : goal.respond-requires
 respond-requires g c =
     let s = c.args.self.now in
-    let v = c.in-ok-vertex.vertex in
-    let known = off s.size (vec_items s.active) (vec_items c.pop.new.self) v c.in-ok-vertex.ensures.items s.sound in
-    omega (arith, known.low, c.requires.0, count_plain (items c.args.tasks.now) c.as-slice-held.result.now c.as-slice-held.ensures.items)
+    let v = c.in_ok-vertex.vertex in
+    let known = off s.size (vec_items s.active) (vec_items c.pop.new.self) v c.in_ok-vertex.ensures.items s.sound in
+    omega (arith, known.low, c.requires.0, count_plain (items c.args.tasks.now) c.as_slice-held.result.now c.as_slice-held.ensures.items)
 
 pub settle-requires : goal.settle-requires
 settle-requires g c =
     let s = c.args.self.now in
-    let v = c.in-ok-vertex.vertex in
-    let known = off s.size (vec_items s.active) (vec_items c.pop.new.self) v c.in-ok-vertex.ensures.items s.sound in
+    let v = c.in_ok-vertex.vertex in
+    let known = off s.size (vec_items s.active) (vec_items c.pop.new.self) v c.in_ok-vertex.ensures.items s.sound in
     let long : length (ranks c.with-here.result) ≡ length (ranks v.above ++ (v.task ∷ [])) = ap (λ a. length a.order) c.with-here.ensures in
     let deeper : length (ranks c.with-here.result) ≡ suc (members v.above.placed.word)
     = omega (arith, long, length-append (ranks v.above) (v.task ∷ []), level_is v.above) in
@@ -39,15 +39,15 @@ settle-requires g c =
 pub returns-in-Some : goal.returns-in-Some
 returns-in-Some g c =
     let s = c.args.self.now in
-    let v = c.in-ok-vertex.vertex in
+    let v = c.in_ok-vertex.vertex in
     let l = c.args.tasks.now in
     let held = plains l in
     let answer = g.T.ResponseTest.answer c.args.test.now (timings held) in
     let costs = priced (g.C.Cost.prices c.args.cost.now) held in
-    let read = asked (g.T.ResponseTest.answer c.args.test.now) (items l) c.as-slice-held.result.now c.as-slice-held.ensures.items v.task v.above.placed.word in
+    let read = asked (g.T.ResponseTest.answer c.args.test.now) (items l) c.as_slice-held.result.now c.as_slice-held.ensures.items v.task v.above.placed.word in
     let rest = map waiting (reverse (vec_items c.pop.new.self)) in
     let active : map waiting (reverse (vec_items s.active)) ≡ waiting v ∷ rest
-    = popped s.size (vec_items s.active) (vec_items c.pop.new.self) (Some v) c.in-ok-vertex.ensures.items in
+    = popped s.size (vec_items s.active) (vec_items c.pop.new.self) (Some v) c.in_ok-vertex.ensures.items in
     record {
       size = c.settle.ensures.size;
       state = c.settle.ensures.state
@@ -59,17 +59,17 @@ returns-in-Some g c =
 pub returns : goal.returns
 returns g c =
     let s = c.args.self.now in
-    let v = c.in-ok-vertex.vertex in
+    let v = c.in_ok-vertex.vertex in
     let l = c.args.tasks.now in
     let held = plains l in
     let answer = g.T.ResponseTest.answer c.args.test.now (timings held) in
     let costs = priced (g.C.Cost.prices c.args.cost.now) held in
-    let read = asked (g.T.ResponseTest.answer c.args.test.now) (items l) c.as-slice-held.result.now c.as-slice-held.ensures.items v.task v.above.placed.word in
+    let read = asked (g.T.ResponseTest.answer c.args.test.now) (items l) c.as_slice-held.result.now c.as_slice-held.ensures.items v.task v.above.placed.word in
     let rest = map waiting (reverse (vec_items c.pop.new.self)) in
     let active : map waiting (reverse (vec_items s.active)) ≡ waiting v ∷ rest
-    = popped s.size (vec_items s.active) (vec_items c.pop.new.self) (Some v) c.in-ok-vertex.ensures.items in
+    = popped s.size (vec_items s.active) (vec_items c.pop.new.self) (Some v) c.in_ok-vertex.ensures.items in
     record {
       size = refl;
-      state = sym (top_answered (length held) answer costs (ranked s.best) (map waiting (reverse (vec_items s.active))) rest v None active (sym (c.in-default.ensures ∙ read)));
+      state = sym (top_answered (length held) answer costs (ranked s.best) (map waiting (reverse (vec_items s.active))) rest v None active (sym (c.in_default.ensures ∙ read)));
       price = (ap is_none active, c.requires.1);
     }

@@ -11,8 +11,8 @@ use Rattle.search.proofs.Rankings.{last_is_order}
 use Rattle.search.proofs.Walks.{last_kept, last_new, below_late, below_dropped, below_entered}
 use Rattle.search.proofs.search.Search.settle.Goals as goal
 
-pub returns-then-no-more : goal.returns-then-no-more
-returns-then-no-more g c =
+pub returns-then-no_more : goal.returns-then-no_more
+returns-then-no_more g c =
     let l = c.args.tasks.now in
     let held = plains l in
     let n = length held in
@@ -23,21 +23,21 @@ returns-then-no-more g c =
     let best = ranked s.best in
     let rest = map waiting (reverse (vec_items s.active)) in
     let here = ranked c.args.here in
-    let slice = c.as-slice-held in
+    let slice = c.as_slice-held in
     let size = count_plain (items l) slice.result.now slice.ensures.items in
     let level = c.level.ensures in
     let last : length (ranks c.args.here) ≡ n = omega (arith, c.if-level-held.true) in
     let order = last_is_order c.args.here n s.size c.requires.0.0 c.requires.0.1.1 last in
-    let total = c.total-cost-total.ensures.value ∙ total_is p (g.met.C.Cost.lawful c.args.cost.now) held (λ i. get_or c.args.here.times i 0) (ranks c.args.here) order in
-    let test = ap₂ p.no_more (sym c.requires.1) (sym total) ∙ sym c.no-more.ensures in
-    record { size = refl; state = sym (last_kept n answer costs best rest here last (test ∙ c.if-no-more.true)); price = c.requires.1 }
+    let total = c.total_cost-total.ensures.value ∙ total_is p (g.met.C.Cost.lawful c.args.cost.now) held (λ i. get_or c.args.here.times i 0) (ranks c.args.here) order in
+    let test = ap₂ p.no_more (sym c.requires.1) (sym total) ∙ sym c.no_more.ensures in
+    record { size = refl; state = sym (last_kept n answer costs best rest here last (test ∙ c.if-no_more.true)); price = c.requires.1 }
 
-pub invariant-of-self : goal.invariant-of-self
-invariant-of-self g c =
+pub invariant_of-self : goal.invariant_of-self
+invariant_of-self g c =
     let s = c.args.self.now in
     let l = c.args.tasks.now in
     let n = length (plains l) in
-    let slice = c.as-slice-held in
+    let slice = c.as_slice-held in
     let size = count_plain (items l) slice.result.now slice.ensures.items in
     let level = c.level.ensures in
     let last : length (ranks c.args.here) ≡ n = omega (arith, c.if-level-held.true) in
@@ -56,17 +56,17 @@ returns-then-level-held g c =
     let best = ranked s.best in
     let rest = map waiting (reverse (vec_items s.active)) in
     let here = ranked c.args.here in
-    let slice = c.as-slice-held in
+    let slice = c.as_slice-held in
     let size = count_plain (items l) slice.result.now slice.ensures.items in
     let level = c.level.ensures in
     let last : length (ranks c.args.here) ≡ n = omega (arith, c.if-level-held.true) in
     let order = last_is_order c.args.here n s.size c.requires.0.0 c.requires.0.1.1 last in
-    let total = c.total-cost-total.ensures.value ∙ total_is p (g.met.C.Cost.lawful c.args.cost.now) held (λ i. get_or c.args.here.times i 0) (ranks c.args.here) order in
-    let test = ap₂ p.no_more (sym c.requires.1) (sym total) ∙ sym c.no-more.ensures in
-    record { size = refl; state = sym (last_new n answer costs best rest here last (test ∙ c.if-no-more.false)); price = total }
+    let total = c.total_cost-total.ensures.value ∙ total_is p (g.met.C.Cost.lawful c.args.cost.now) held (λ i. get_or c.args.here.times i 0) (ranks c.args.here) order in
+    let test = ap₂ p.no_more (sym c.requires.1) (sym total) ∙ sym c.no_more.ensures in
+    record { size = refl; state = sym (last_new n answer costs best rest here last (test ∙ c.if-no_more.false)); price = total }
 
-pub returns-then-not-no-more : goal.returns-then-not-no-more
-returns-then-not-no-more g c =
+pub returns-then-not-no_more : goal.returns-then-not-no_more
+returns-then-not-no_more g c =
     let l = c.args.tasks.now in
     let held = plains l in
     let n = length held in
@@ -77,23 +77,23 @@ returns-then-not-no-more g c =
     let best = ranked s.best in
     let rest = map waiting (reverse (vec_items s.active)) in
     let here = ranked c.args.here in
-    let slice = c.as-slice-held in
+    let slice = c.as_slice-held in
     let size = count_plain (items l) slice.result.now slice.ensures.items in
     let level = c.level.ensures in
     let higher : length (ranks c.args.here) ≡ n → ⊥ = λ e. omega (arith, c.if-level-held.false) in
     let v = c.in-Some.bound in
-    let test = ap (λ x. p.no_more x v) (sym c.requires.1) ∙ sym c.no-more-in-Some.ensures in
+    let test = ap (λ x. p.no_more x v) (sym c.requires.1) ∙ sym c.no_more-in-Some.ensures in
     let entered = c.enter.ensures in
     record {
       size = entered.size;
       state = ap₂ (λ b vs. record { best = b; active = vs }) (ap ranked entered.best) entered.active
           ∙ ap (λ k. record { best = best; active = entering k here ++ rest }) (sym c.requires.0.0)
-          ∙ sym (below_entered n answer costs best rest here higher (Some v) c.in-Some.ensures v refl (test ∙ c.if-not-no-more.true));
+          ∙ sym (below_entered n answer costs best rest here higher (Some v) c.in-Some.ensures v refl (test ∙ c.if-not-no_more.true));
       price = c.requires.1 ∙ ap (λ b. worth costs (ranked b)) (sym entered.best);
     }
 
-pub returns-else-not-no-more : goal.returns-else-not-no-more
-returns-else-not-no-more g c =
+pub returns-else-not-no_more : goal.returns-else-not-no_more
+returns-else-not-no_more g c =
     let l = c.args.tasks.now in
     let held = plains l in
     let n = length held in
@@ -104,20 +104,20 @@ returns-else-not-no-more g c =
     let best = ranked s.best in
     let rest = map waiting (reverse (vec_items s.active)) in
     let here = ranked c.args.here in
-    let slice = c.as-slice-held in
+    let slice = c.as_slice-held in
     let size = count_plain (items l) slice.result.now slice.ensures.items in
     let level = c.level.ensures in
     let higher : length (ranks c.args.here) ≡ n → ⊥ = λ e. omega (arith, c.if-level-held.false) in
     let v = c.in-Some.bound in
-    let test = ap (λ x. p.no_more x v) (sym c.requires.1) ∙ sym c.no-more-in-Some.ensures in
+    let test = ap (λ x. p.no_more x v) (sym c.requires.1) ∙ sym c.no_more-in-Some.ensures in
     record {
       size = refl;
-      state = sym (below_dropped n answer costs best rest here higher (Some v) c.in-Some.ensures v refl (test ∙ c.if-not-no-more.false));
+      state = sym (below_dropped n answer costs best rest here higher (Some v) c.in-Some.ensures v refl (test ∙ c.if-not-no_more.false));
       price = c.requires.1;
     }
 
-pub returns-in-default : goal.returns-in-default
-returns-in-default g c =
+pub returns-in_default : goal.returns-in_default
+returns-in_default g c =
     let l = c.args.tasks.now in
     let held = plains l in
     let n = length held in
@@ -128,12 +128,12 @@ returns-in-default g c =
     let best = ranked s.best in
     let rest = map waiting (reverse (vec_items s.active)) in
     let here = ranked c.args.here in
-    let slice = c.as-slice-held in
+    let slice = c.as_slice-held in
     let size = count_plain (items l) slice.result.now slice.ensures.items in
     let level = c.level.ensures in
     let higher : length (ranks c.args.here) ≡ n → ⊥ = λ e. omega (arith, c.if-level-held.false) in
     record {
       size = refl;
-      state = sym (below_late n answer costs best rest here higher None c.in-default.ensures refl);
+      state = sym (below_late n answer costs best rest here higher None c.in_default.ensures refl);
       price = c.requires.1;
     }

@@ -10,7 +10,7 @@ use Rattle.search.proofs.search.Search.start.Goals as goal
 
 pub begin-requires : goal.begin-requires
 begin-requires g c =
-    let slice = c.as-slice-held in
+    let slice = c.as_slice-held in
     let size = count_plain (items c.args.tasks.now) slice.result.now slice.ensures.items in (
       omega (arith, slice.ensures.len, c.args.tasks.now.few),
       subst (λ n. Order n (ranks c.in-Some.first)) size c.in-Some.ensures.order,
@@ -18,7 +18,7 @@ begin-requires g c =
 
 pub returns-in-Some : goal.returns-in-Some
 returns-in-Some g c =
-    let slice = c.as-slice-held in
+    let slice = c.as_slice-held in
     let n = length (plains c.args.tasks.now) in
     let size = count_plain (items c.args.tasks.now) slice.result.now slice.ensures.items in
     let size_is = c.begin.ensures.size ∙ sym size in

@@ -3,13 +3,13 @@ use Rattle.tables.specs.Bits.{field}
 use Rattle.tables.proofs.Packing.{field_more, field_room}
 use Rattle.tables.proofs.bits.BitReader.take.Goals as goal
 
-pub overflow-mul-value : goal.overflow-mul-value
-overflow-mul-value c =
+pub overflow_mul-value : goal.overflow_mul-value
+overflow_mul-value c =
     let room = field_room c.args.self.now.bytes.now c.args.self.now.at (c.loop-place.place - c.args.self.now.at) (omega arith) in
     record { fits = omega (arith, room, c.loop-place.invariant) }
 
-pub overflow-add-value : goal.overflow-add-value
-overflow-add-value c =
+pub overflow_add-value : goal.overflow_add-value
+overflow_add-value c =
     let room = field_room c.args.self.now.bytes.now c.args.self.now.at (c.loop-place.place - c.args.self.now.at) (omega arith) in
     record { fits = omega (arith, room, c.loop-place.invariant, c.bit.ensures) }
 

@@ -2,8 +2,8 @@ use Rattle.std.proofs.Common.{◌+◌, ◌*◌, ◌^◌, ◌<◌, refl, ap, ◌�
 use Rattle.tables.proofs.Packing.{put_value, put_small}
 use Rattle.tables.proofs.bits.BitWriter.put.Goals as goal
 
-pub invariant-of-result : goal.invariant-of-result
-invariant-of-result c =
+pub invariant_of-result : goal.invariant_of-result
+invariant_of-result c =
     let small : c.from.result < 2 ^ c.args.width = omega (arith, c.requires.value, c.from.ensures) in
     (c.requires.room, (put_small c.args.self.word c.args.self.bits c.args.width c.from.result c.args.self.small small c.requires.room, tt))
 
