@@ -19,16 +19,16 @@ impl Cost for Sum {
 
     ghost lawful = { λ x.
         record {
-          comparable = search rules;
-          transitive = search rules;
-          associative = search rules;
-          commutative = search rules;
-          neutral = search rules;
-          keeps_no_more = search rules;
-          later_no_less = λ w t r s h. let p : w * r ≤ w * s = mul-le-mul_left w h in search rules;
-          covers_none = search rules;
-          covers_one = λ w t r h k. let p : w * r ≤ 65535 * 4294967295 = mul-le-mul h k in search rules;
-          covers_both = search rules;
+          comparable = Prim.search rules;
+          transitive = Prim.search rules;
+          associative = Prim.search rules;
+          commutative = Prim.search rules;
+          neutral = Prim.search rules;
+          keeps_no_more = Prim.search rules;
+          later_no_less = λ w t r s h. let p : w * r ≤ w * s = mul-le-mul_left w h in Prim.search rules;
+          covers_none = Prim.search rules;
+          covers_one = λ w t r h k. let p : w * r ≤ 65535 * 4294967295 = mul-le-mul h k in Prim.search rules;
+          covers_both = Prim.search rules;
         } };
 
     fn code(&self) -> u8 {

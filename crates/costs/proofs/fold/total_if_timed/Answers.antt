@@ -37,7 +37,7 @@ returns-in_err-times g c =
     let i = c.loop-position.position in
     let f = λ (i : ℕ). charge_if_timed p (map plain held) i (get_or c.args.times.now i None) in
     let count = count_plain held c.as_slice-task-items.result.now c.as_slice-task-items.ensures.items in
-    c.from-residual.ensures
+    c.from_residual.ensures
     ∙ sym (join_all_missing p i (length (map plain held)) f (omega arith) (ap (charge_if_timed p (map plain held) i) c.in_err-times.was))
 
 pub returns : goal.returns

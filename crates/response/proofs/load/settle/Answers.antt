@@ -8,7 +8,7 @@ pub returns-in_err-next : goal.returns-in_err-next
 returns-in_err-next c =
     let tasks = c.args.tasks.now in
     let past = up_to_isnt _ _ (sym c.in_err-next.ensures) in
-    c.from-residual.ensures ∙ sym (settled_past (timed tasks) (tasks_legal tasks) c.args.above.word c.args.base c.loop-next.w c.args.limit c.loop-next.invariant.1 past)
+    c.from_residual.ensures ∙ sym (settled_past (timed tasks) (tasks_legal tasks) c.args.above.word c.args.base c.loop-next.w c.args.limit c.loop-next.invariant.1 past)
 
 pub returns-then-next-w : goal.returns-then-next-w
 returns-then-next-w c =

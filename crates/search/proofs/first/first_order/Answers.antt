@@ -109,9 +109,9 @@ returns-in_err-pick g c =
     let inv = c.loop-level.invariant in
     let v = lower n c.loop-level.level c.loop-level.order in
     record {
-      value = ap (option_map ranked) c.from-residual.ensures
+      value = ap (option_map ranked) c.from_residual.ensures
           ∙ sym (above_late n answer costs c.loop-level.level v c.loop-level.times c.loop-level-test.true (sym (c.in_err-pick.ensures.value v inv.4))) ∙ inv.5;
-      order = subst (λ o. IfSome o (λ a. Order n (ranks a))) (sym c.from-residual.ensures) tt;
+      order = subst (λ o. IfSome o (λ a. Order n (ranks a))) (sym c.from_residual.ensures) tt;
       exact = λ all. first_order_is_exact _ n answer costs (monotone_of (g.T.Admission.admitted c.args.test.now) (g.T.ResponseTest.answer c.args.test.now) (g.met.T.ResponseTest.monotone c.args.test.now) held (held_of (items l) (g.T.Admission.admitted c.args.test.now) all));
       greedy = first_order_is_greedy _ n answer costs (laws_of (g.C.Cost.prices c.args.cost.now) (g.met.C.Cost.lawful c.args.cost.now) held);
     }

@@ -8,14 +8,14 @@ use Rattle.tables.proofs.table.decode.Goals as goal
 pub returns-in_err-header : goal.returns-in_err-header
 returns-in_err-header g c = record {
   value = search rules;
-  table = IfOk-from_err c.from-residual.result _ c.from-residual.ensures.0;
+  table = IfOk-from_err c.from_residual.result _ c.from_residual.ensures.0;
   pairs = pairs (g.T.Admission.admitted c.args.test.now) c.args.codes.test c.args.codes.cost c.args.codes.tests c.args.codes.costs;
 }
 
 pub returns-in_err-check_header : goal.returns-in_err-check_header
 returns-in_err-check_header g c = record {
   value = search rules;
-  table = IfOk-from_err c.from-residual-in_err-check_header.result _ c.from-residual-in_err-check_header.ensures.0;
+  table = IfOk-from_err c.from_residual-in_err-check_header.result _ c.from_residual-in_err-check_header.ensures.0;
   pairs = pairs (g.T.Admission.admitted c.args.test.now) c.args.codes.test c.args.codes.cost c.args.codes.tests c.args.codes.costs;
 }
 

@@ -40,7 +40,7 @@ read_task-requires g c = (turn g (goal.at.read_task-requires g c).In-Some).size
 
 pub returns-in_err-task : goal.returns-in_err-task
 returns-in_err-task g c =
-    let p = err_from_is_err_and c.from-residual.result c.from-residual.ensures.1 in
+    let p = err_from_is_err_and c.from_residual.result c.from_residual.ensures.1 in
     rw (p.1, p.2) (sym (turn_refused (turn g (goal.at.returns-in_err-task g c).In-Some) c.in_err-task.field-0.0 c.in_err-task.ensures))
 
 pub returns-then-task-floor : goal.returns-then-task-floor

@@ -36,7 +36,7 @@ returns-in_err-end c =
     let j = c.loop-job in
     let long = timed_length tasks in
     let busy-is = busy_by tasks i h j.job j.release c.index-tasks-position.result c.requires c.index-tasks-position.is j.invariant.released in
-    c.from-residual.ensures
+    c.from_residual.ensures
     ∙ sym (so_far_late (timed tasks) (tasks_legal tasks) i (omega arith) h j.job j.worst j.release j.end j.invariant
     (omega arith) (sym busy-is ∙ sym c.in_err-end.ensures))
 

@@ -68,7 +68,7 @@ returns-in_err-time g c =
     let i = c.loop-position.position in
     let size = count_plain (items l) slice.result.now slice.ensures.items in
     let read = asked (g.T.ResponseTest.answer c.args.test.now) (items l) slice.result.now slice.ensures.items i r.placed.word in
-    c.from-residual.ensures
+    c.from_residual.ensures
     ∙ sym (bound_late p laws held r.times (ranks r) (front_below r (length held) c.requires) r.placed.word r.marked answer
     i (omega (arith, c.loop-position-test.true)) (sym c.contains.ensures ∙ c.if-contains.false)
     (sym (c.in_err-time.ensures ∙ read)))

@@ -5,7 +5,7 @@ use Rattle.tables.proofs.bits.BitWriter.put.Goals as goal
 pub invariant_of-result : goal.invariant_of-result
 invariant_of-result c =
     let small : c.from.result < 2 ^ c.args.width = omega (arith, c.requires.value, c.from.ensures) in
-    (c.requires.room, (put_small c.args.self.word c.args.self.bits c.args.width c.from.result c.args.self.small small c.requires.room, tt))
+    record { few = c.requires.room; small = put_small c.args.self.word c.args.self.bits c.args.width c.from.result c.args.self.small small c.requires.room }
 
 pub returns : goal.returns
 returns c =
