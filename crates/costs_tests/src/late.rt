@@ -1,5 +1,5 @@
 // A cost of its own: the number of tasks whose response time is above a limit.
-ghost use Rattle.std.specs.Prelude.{◌+◌, if◌then◌else◌, nat_lt};
+ghost use Rattle.std.specs.Prelude.{◌+◌, if◌then◌else◌, nat_lt, nat_le};
 ghost use Rattle.std.proofs.Common.{rules};
 
 use costs::cost::Cost;
@@ -14,7 +14,7 @@ impl Cost for Late {
 
     ghost number = { 2 };
 
-    ghost prices = { λ x. record { nothing = 0; single = λ _ _ response. (if nat_lt x.limit response then 1 else 0); joined = ◌+◌; no_more = leb; numbers = λ a. (a, 0); covered = λ a. a } };
+    ghost prices = { λ x. record { nothing = 0; single = λ _ _ response. (if nat_lt x.limit response then 1 else 0); joined = ◌+◌; no_more = nat_le; numbers = λ a. (a, 0); covered = λ a. a } };
 
     ghost coded = { Prim.search rules };
 

@@ -21,7 +21,7 @@ pub fn best_order<T: ResponseTest, C: Cost>(
     cost: &C,
     tasks: &TaskList,
 ) -> Result<Option<Ranking>, AllocError>
-    ensures { Admitted (T.Admission.admitted test.now) (plains tasks.now) → IfOk result (λ o. MatchOption o (HasNoOrder (length (plains tasks.now)) (answer test.now (timings (plains tasks.now)))) (λ best. BestOver (answer test.now) (prices cost.now) (plains tasks.now) (ranked best))) }
+    ensures { Admitted (T.Admission.admitted test.now) (plains tasks.now) → IfOk result (λ o. MatchOption o (HasNoOrder (length (plains tasks.now)) (T.answer test.now (timings (plains tasks.now)))) (λ best. BestOver (T.answer test.now) (C.prices cost.now) (plains tasks.now) (ranked best))) }
 {
     let mut search = Search::new(heap)?;
     if !search.start(test, cost, tasks) {

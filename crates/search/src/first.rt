@@ -19,7 +19,7 @@ use tasks::set::TaskSet;
 // The cost of a task with its response time.
 fn price<C: Cost>(cost: &C, tasks: &TaskList, pick: Pick) -> C::Value
     requires { pick.position < length (plains tasks.now) }
-    ensures { result ≡ charge (prices cost.now) (plains tasks.now) pick.position pick.time }
+    ensures { result ≡ charge (C.prices cost.now) (plains tasks.now) pick.position pick.time }
 {
     let held = tasks.as_slice();
     let task = held[pick.position];
@@ -29,7 +29,7 @@ fn price<C: Cost>(cost: &C, tasks: &TaskList, pick: Pick) -> C::Value
 // Of a pick and another the one of less cost, on a tie the first.
 fn cheaper<C: Cost>(cost: &C, tasks: &TaskList, pick: Pick, other: Option<Pick>) -> Pick
     requires { (pick.position < length (plains tasks.now)) × (IfSome other (λ d. d.position < length (plains tasks.now))) }
-    ensures value { Some (chosen result) ≡ less (priced (prices cost.now) (plains tasks.now)) pick.position (Some pick.time) (option_map chosen other) }
+    ensures value { Some (chosen result) ≡ less (priced (C.prices cost.now) (plains tasks.now)) pick.position (Some pick.time) (option_map chosen other) }
     ensures either { (result ≡ pick) ⊎ (Some result ≡ other) }
 {
     match other {
@@ -52,7 +52,7 @@ fn cheapest<T: ResponseTest, C: Cost>(
     unplaced: TaskSet,
 ) -> Option<Pick>
     ensures among { IfSome result (Among (length (plains tasks.now)) unplaced.word) }
-    ensures value { (lower : List ℕ) → word (lacking (length (plains tasks.now)) lower) ≡ unplaced.word → option_map chosen result ≡ cheapest_over (answer test.now) (prices cost.now) (plains tasks.now) lower }
+    ensures value { (lower : List ℕ) → word (lacking (length (plains tasks.now)) lower) ≡ unplaced.word → option_map chosen result ≡ cheapest_over (T.answer test.now) (C.prices cost.now) (plains tasks.now) lower }
 {
     let held = tasks.as_slice();
     let mut best = None;
@@ -72,10 +72,10 @@ pub fn first_order<T: ResponseTest, C: Cost>(
     cost: &C,
     tasks: &TaskList,
 ) -> Option<Ranking>
-    ensures value { option_map ranked result ≡ first_over (answer test.now) (prices cost.now) (plains tasks.now) }
+    ensures value { option_map ranked result ≡ first_over (T.answer test.now) (C.prices cost.now) (plains tasks.now) }
     ensures order { IfSome result (λ a. Order (length (plains tasks.now)) (ranks a)) }
-    ensures exact { Admitted (T.Admission.admitted test.now) (plains tasks.now) → FirstExact (answer test.now) (prices cost.now) (plains tasks.now) }
-    ensures greedy { FirstGreedy (answer test.now) (prices cost.now) (plains tasks.now) }
+    ensures exact { Admitted (T.Admission.admitted test.now) (plains tasks.now) → FirstExact (T.answer test.now) (C.prices cost.now) (plains tasks.now) }
+    ensures greedy { FirstGreedy (T.answer test.now) (C.prices cost.now) (plains tasks.now) }
 {
     let held = tasks.as_slice();
     let placed = TaskSet::first(held.len());

@@ -19,7 +19,7 @@ impl Ranking {
         tasks: &TaskList,
     ) -> Option<C::Value>
         requires { all_below (length (plains tasks.now)) (ranks self.now) ≡ true }
-        ensures { result ≡ bound_over (answer test.now) (prices cost.now) (plains tasks.now) (ranked self.now) }
+        ensures { result ≡ bound_over (T.answer test.now) (C.prices cost.now) (plains tasks.now) (ranked self.now) }
     {
         let held = tasks.as_slice();
         let mut sum = cost.none();

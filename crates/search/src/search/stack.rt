@@ -30,7 +30,7 @@ impl Search {
 
     // Begins with the first order as the best, or leaves the search as it was where no order passes.
     pub fn start<T: ResponseTest, C: Cost>(&mut self, test: &T, cost: &C, tasks: &TaskList) -> bool
-        ensures started { Started (first_over (answer test.now) (prices cost.now) (plains tasks.now)) (length (plains tasks.now)) result self.old self.new }
+        ensures started { Started (first_over (T.answer test.now) (C.prices cost.now) (plains tasks.now)) (length (plains tasks.now)) result self.old self.new }
         ensures size { result ≡ true → self.new.size ≡ length (plains tasks.now) }
     {
         match first_order(test, cost, tasks) {

@@ -23,7 +23,7 @@ impl Search {
     // The cost of the best order so far.
     pub fn best_cost<C: Cost>(&self, cost: &C, tasks: &TaskList) -> C::Value
         requires { length (plains tasks.now) ≡ self.now.size }
-        ensures { result ≡ worth (priced (prices cost.now) (plains tasks.now)) (state self.now).best }
+        ensures { result ≡ worth (priced (C.prices cost.now) (plains tasks.now)) (state self.now).best }
     {
         total_cost(cost, tasks, &self.best.times)
     }
@@ -38,11 +38,13 @@ impl Search {
         here: Ranking,
         price: C::Value,
     ) -> C::Value
-        requires tasks_len { (length (plains tasks.now) ≡ self.old.size) × ((vec_len self.old.active ≤ room (length (ranks here))) × (all_below self.old.size (ranks here) ≡ true)) }
-        requires price_value { price ≡ worth (priced (prices cost.now) (plains tasks.now)) (ranked self.old.best) }
+        requires over_held { length (plains tasks.now) ≡ self.old.size }
+        requires room { vec_len self.old.active ≤ room (length (ranks here)) }
+        requires among { all_below self.old.size (ranks here) ≡ true }
+        requires price { price ≡ worth (priced (C.prices cost.now) (plains tasks.now)) (ranked self.old.best) }
         ensures size { self.new.size ≡ self.old.size }
-        ensures state { state self.new ≡ placed_over (answer test.now) (prices cost.now) (plains tasks.now) (state self.old) (ranked here) }
-        ensures price { result ≡ worth (priced (prices cost.now) (plains tasks.now)) (ranked self.new.best) }
+        ensures state { state self.new ≡ placed_over (T.answer test.now) (C.prices cost.now) (plains tasks.now) (state self.old) (ranked here) }
+        ensures price { result ≡ worth (priced (C.prices cost.now) (plains tasks.now)) (ranked self.new.best) }
     {
         let held = tasks.as_slice();
         if here.level() == held.len() {
@@ -69,11 +71,11 @@ impl Search {
         tasks: &TaskList,
         price: C::Value,
     ) -> Option<C::Value>
-        requires tasks_len { length (plains tasks.now) ≡ self.old.size }
-        requires price_value { price ≡ worth (priced (prices cost.now) (plains tasks.now)) (ranked self.old.best) }
+        requires over_held { length (plains tasks.now) ≡ self.old.size }
+        requires price { price ≡ worth (priced (C.prices cost.now) (plains tasks.now)) (ranked self.old.best) }
         ensures size { self.new.size ≡ self.old.size }
-        ensures state { state self.new ≡ examine_over (answer test.now) (prices cost.now) (plains tasks.now) (state self.old) }
-        ensures price { MatchOption result ((state self.old).active ≡ []) (λ v. (is_none (state self.old).active ≡ false) × (v ≡ worth (priced (prices cost.now) (plains tasks.now)) (ranked self.new.best))) }
+        ensures state { state self.new ≡ examine_over (T.answer test.now) (C.prices cost.now) (plains tasks.now) (state self.old) }
+        ensures price { MatchOption result ((state self.old).active ≡ []) (λ v. (is_none (state self.old).active ≡ false) × (v ≡ worth (priced (C.prices cost.now) (plains tasks.now)) (ranked self.new.best))) }
     {
         let vertex = self.active.pop()?;
         let held = tasks.as_slice();
@@ -95,12 +97,12 @@ impl Search {
     ) -> Progress
         requires { length (plains tasks.now) ≡ self.old.size }
         ensures size { self.new.size ≡ self.old.size }
-        ensures state { state self.new ≡ steps_over (answer test.now) (prices cost.now) (plains tasks.now) count (state self.old) }
-        ensures examined { result.examined ≡ stepped_over (answer test.now) (prices cost.now) (plains tasks.now) count (state self.old) }
+        ensures state { state self.new ≡ steps_over (T.answer test.now) (C.prices cost.now) (plains tasks.now) count (state self.old) }
+        ensures examined { result.examined ≡ stepped_over (T.answer test.now) (C.prices cost.now) (plains tasks.now) count (state self.old) }
         ensures finished { result.finished ≡ is_none (state self.new).active }
-        ensures reached { (k : ℕ) → Reached (answer test.now) (prices cost.now) (plains tasks.now) k (state self.old) → Reached (answer test.now) (prices cost.now) (plains tasks.now) (k + count) (state self.new) }
-        ensures ends { (k : ℕ) → Reached (answer test.now) (prices cost.now) (plains tasks.now) k (state self.new) → vertices (length (plains tasks.now)) ≤ k → result.finished ≡ true }
-        ensures best { (k : ℕ) → Reached (answer test.now) (prices cost.now) (plains tasks.now) k (state self.new) → Admitted (T.Admission.admitted test.now) (plains tasks.now) → result.finished ≡ true → BestOver (answer test.now) (prices cost.now) (plains tasks.now) (state self.new).best }
+        ensures reached { (k : ℕ) → Reached (T.answer test.now) (C.prices cost.now) (plains tasks.now) k (state self.old) → Reached (T.answer test.now) (C.prices cost.now) (plains tasks.now) (k + count) (state self.new) }
+        ensures ends { (k : ℕ) → Reached (T.answer test.now) (C.prices cost.now) (plains tasks.now) k (state self.new) → vertices (length (plains tasks.now)) ≤ k → result.finished ≡ true }
+        ensures best { (k : ℕ) → Reached (T.answer test.now) (C.prices cost.now) (plains tasks.now) k (state self.new) → Admitted (T.Admission.admitted test.now) (plains tasks.now) → result.finished ≡ true → BestOver (T.answer test.now) (C.prices cost.now) (plains tasks.now) (state self.new).best }
     {
         let mut price = self.best_cost(cost, tasks);
         for examined in 0..count {

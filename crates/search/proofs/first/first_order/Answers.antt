@@ -131,13 +131,13 @@ invariant_of-result g c =
     let end : c.loop-level.level ≡ 0 = omega arith in
     let whole : lower n c.loop-level.level order ≡ take n order = ap (λ k. lower n k order) end ∙ ap (λ k. take k order) (omega arith) in
     let front = subst (Front n) whole inv.3 in
-    let is = sym (take_full n w order few inv.0 bits front) in (
-      subst (λ v. (i : ℕ) → count i v ≤ 1) is front.once,
-      (
-        subst (λ v. (i : ℕ) → 16 ≤ i → count i v ≡ 0) is (λ i h. front.else_none i (omega arith)),
-        (subst (λ v. word v ≡ w) is (word_full n w order few inv.0 bits front), (inv.2, tt)),
-      ),
-    )
+    let is = sym (take_full n w order few inv.0 bits front) in
+    record {
+      once = subst (λ v. (i : ℕ) → count i v ≤ 1) is front.once;
+      among = subst (λ v. (i : ℕ) → 16 ≤ i → count i v ≡ 0) is (λ i h. front.else_none i (omega arith));
+      marked = subst (λ v. word v ≡ w) is (word_full n w order few inv.0 bits front);
+      brief = inv.2;
+    }
 
 pub returns : goal.returns
 returns g c =

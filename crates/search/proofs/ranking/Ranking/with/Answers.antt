@@ -14,16 +14,13 @@ invariant_of-result c =
     let long : length r.order ≡ 16 = search rules in
     let wide : length r.times ≡ 16 = search rules in
     let more = front_more r t c.requires.0 c.requires.1 in
-    let is = sym (ranks_more r t c.requires.0 c.requires.1 w (c.with.ensures.added (omega arith)) c.level.result c.level.ensures long) in (
-      subst (λ v. (i : ℕ) → count i v ≤ 1) is more.once,
-      (
-        subst (λ v. (i : ℕ) → 16 ≤ i → count i v ≡ 0) is more.else_none,
-        (
-          subst (λ v. word v ≡ w) is (word_more r t c.requires.0 c.requires.1 w (c.with.ensures.added (omega arith))),
-          (brief_more r.times t c.args.time (omega arith) (omega arith) r.brief, tt),
-        ),
-      ),
-    )
+    let is = sym (ranks_more r t c.requires.0 c.requires.1 w (c.with.ensures.added (omega arith)) c.level.result c.level.ensures long) in
+    record {
+      once = subst (λ v. (i : ℕ) → count i v ≤ 1) is more.once;
+      among = subst (λ v. (i : ℕ) → 16 ≤ i → count i v ≡ 0) is more.else_none;
+      marked = subst (λ v. word v ≡ w) is (word_more r t c.requires.0 c.requires.1 w (c.with.ensures.added (omega arith)));
+      brief = brief_more r.times t c.args.time (omega arith) (omega arith) r.brief;
+    }
 
 pub returns : goal.returns
 returns c =

@@ -10,7 +10,7 @@ use Rattle.search.proofs.Walks.{steps_next, stepped_next, none_left}
 use Rattle.search.proofs.search.Search.advance.Goals as goal
 
 pub examine-requires : goal.examine-requires
-examine-requires g c = (c.requires ∙ sym c.loop-examined.invariant.0, c.loop-examined.invariant.1)
+examine-requires g c = record { over_held = c.requires ∙ sym c.loop-examined.invariant.0; price = c.loop-examined.invariant.1 }
 
 pub loop-examined-preserved : goal.loop-examined-preserved
 loop-examined-preserved g c =

@@ -29,7 +29,13 @@ invariant_of-self c =
     let place = place_left c.args.above (vec_items s.active) (vec_items base.active) c.loop-position.position s.size
     c.loop-position-test.true (omega arith) c.loop-position.invariant.2 s.few (omega (arith, c.requires.0, base.active.ok.0)) (sym c.contains.ensures ∙ c.if-not-contains.true) in
     let above = subst (λ n. all_below n (ranks c.args.above) ≡ true) (sym c.loop-position.invariant.0) c.requires.1 in
-    (s.few, (s.once, (s.no_other, (search rules, (pushed_sound _ (vec_items s.active) _ c.push_reserved.ensures.items s.size (omega arith) above place s.sound, tt)))))
+    record {
+      few = s.few;
+      once = s.once;
+      no_other = s.no_other;
+      reserved = search rules;
+      sound = pushed_sound _ (vec_items s.active) _ c.push_reserved.ensures.items s.size (omega arith) above place s.sound;
+    }
 
 pub loop-position-preserved : goal.loop-position-preserved
 loop-position-preserved c =

@@ -15,14 +15,20 @@ use Rattle.search.proofs.search.Search.examine.Goals as goal
 pub invariant_of-self : goal.invariant_of-self
 invariant_of-self g c =
     let s = c.args.self.now in
-    (s.few, (s.once, (s.no_other, (search rules, (popped_sound s.size (vec_items s.active) (vec_items c.pop.new.self) c.pop.result c.pop.ensures.items s.sound, tt)))))
+    record {
+      few = s.few;
+      once = s.once;
+      no_other = s.no_other;
+      reserved = search rules;
+      sound = popped_sound s.size (vec_items s.active) (vec_items c.pop.new.self) c.pop.result c.pop.ensures.items s.sound;
+    }
 
 pub respond-requires : goal.respond-requires
 respond-requires g c =
     let s = c.args.self.now in
     let v = c.in_ok-vertex.vertex in
     let known = off s.size (vec_items s.active) (vec_items c.pop.new.self) v c.in_ok-vertex.ensures.items s.sound in
-    omega (arith, known.low, c.requires.0, count_plain (items c.args.tasks.now) c.as_slice-held.result.now c.as_slice-held.ensures.items)
+    omega (arith, known.low, c.requires.over_held, count_plain (items c.args.tasks.now) c.as_slice-held.result.now c.as_slice-held.ensures.items)
 
 pub settle-requires : goal.settle-requires
 settle-requires g c =
@@ -34,7 +40,7 @@ settle-requires g c =
     = omega (arith, long, length-append (ranks v.above) (v.task ∷ []), level_is v.above) in
     let places = known.under in
     let below = subst (λ a. all_below s.size a.order ≡ true) (sym c.with-here.ensures) (one_below s.size (ranks v.above) v.task known.above known.low) in
-    ((c.requires.0, (omega (arith, ap room deeper, c.pop.new.self.ok.0), below)), c.requires.1)
+    record { over_held = c.requires.over_held; room = omega (arith, ap room deeper, c.pop.new.self.ok.0); among = below; price = c.requires.price }
 
 pub returns-in-Some : goal.returns-in-Some
 returns-in-Some g c =
@@ -71,5 +77,5 @@ returns g c =
     record {
       size = refl;
       state = sym (top_answered (length held) answer costs (ranked s.best) (map waiting (reverse (vec_items s.active))) rest v None active (sym (c.in_default.ensures ∙ read)));
-      price = (ap is_none active, c.requires.1);
+      price = (ap is_none active, c.requires.price);
     }

@@ -27,10 +27,10 @@ returns-then-no_more g c =
     let size = count_plain (items l) slice.result.now slice.ensures.items in
     let level = c.level.ensures in
     let last : length (ranks c.args.here) ≡ n = omega (arith, c.if-level-held.true) in
-    let order = last_is_order c.args.here n s.size c.requires.0.0 c.requires.0.1.1 last in
+    let order = last_is_order c.args.here n s.size c.requires.over_held c.requires.among last in
     let total = c.total_cost-total.ensures.value ∙ total_is p (g.met.C.Cost.lawful c.args.cost.now) held (λ i. get_or c.args.here.times i 0) (ranks c.args.here) order in
-    let test = ap₂ p.no_more (sym c.requires.1) (sym total) ∙ sym c.no_more.ensures in
-    record { size = refl; state = sym (last_kept n answer costs best rest here last (test ∙ c.if-no_more.true)); price = c.requires.1 }
+    let test = ap₂ p.no_more (sym c.requires.price) (sym total) ∙ sym c.no_more.ensures in
+    record { size = refl; state = sym (last_kept n answer costs best rest here last (test ∙ c.if-no_more.true)); price = c.requires.price }
 
 pub invariant_of-self : goal.invariant_of-self
 invariant_of-self g c =
@@ -41,8 +41,8 @@ invariant_of-self g c =
     let size = count_plain (items l) slice.result.now slice.ensures.items in
     let level = c.level.ensures in
     let last : length (ranks c.args.here) ≡ n = omega (arith, c.if-level-held.true) in
-    let order = subst (λ k. Order k (ranks c.args.here)) c.requires.0.0 (last_is_order c.args.here n s.size c.requires.0.0 c.requires.0.1.1 last) in
-    (s.few, (order.once, (order.else_none, (s.reserved, (s.sound, tt)))))
+    let order = subst (λ k. Order k (ranks c.args.here)) c.requires.over_held (last_is_order c.args.here n s.size c.requires.over_held c.requires.among last) in
+    record { few = s.few; once = order.once; no_other = order.else_none; reserved = s.reserved; sound = s.sound }
 
 pub returns-then-level-held : goal.returns-then-level-held
 returns-then-level-held g c =
@@ -60,9 +60,9 @@ returns-then-level-held g c =
     let size = count_plain (items l) slice.result.now slice.ensures.items in
     let level = c.level.ensures in
     let last : length (ranks c.args.here) ≡ n = omega (arith, c.if-level-held.true) in
-    let order = last_is_order c.args.here n s.size c.requires.0.0 c.requires.0.1.1 last in
+    let order = last_is_order c.args.here n s.size c.requires.over_held c.requires.among last in
     let total = c.total_cost-total.ensures.value ∙ total_is p (g.met.C.Cost.lawful c.args.cost.now) held (λ i. get_or c.args.here.times i 0) (ranks c.args.here) order in
-    let test = ap₂ p.no_more (sym c.requires.1) (sym total) ∙ sym c.no_more.ensures in
+    let test = ap₂ p.no_more (sym c.requires.price) (sym total) ∙ sym c.no_more.ensures in
     record { size = refl; state = sym (last_new n answer costs best rest here last (test ∙ c.if-no_more.false)); price = total }
 
 pub returns-then-not-no_more : goal.returns-then-not-no_more
@@ -82,14 +82,14 @@ returns-then-not-no_more g c =
     let level = c.level.ensures in
     let higher : length (ranks c.args.here) ≡ n → ⊥ = λ e. omega (arith, c.if-level-held.false) in
     let v = c.in-Some.bound in
-    let test = ap (λ x. p.no_more x v) (sym c.requires.1) ∙ sym c.no_more-in-Some.ensures in
+    let test = ap (λ x. p.no_more x v) (sym c.requires.price) ∙ sym c.no_more-in-Some.ensures in
     let entered = c.enter.ensures in
     record {
       size = entered.size;
       state = ap₂ (λ b vs. record { best = b; active = vs }) (ap ranked entered.best) entered.active
-          ∙ ap (λ k. record { best = best; active = entering k here ++ rest }) (sym c.requires.0.0)
+          ∙ ap (λ k. record { best = best; active = entering k here ++ rest }) (sym c.requires.over_held)
           ∙ sym (below_entered n answer costs best rest here higher (Some v) c.in-Some.ensures v refl (test ∙ c.if-not-no_more.true));
-      price = c.requires.1 ∙ ap (λ b. worth costs (ranked b)) (sym entered.best);
+      price = c.requires.price ∙ ap (λ b. worth costs (ranked b)) (sym entered.best);
     }
 
 pub returns-else-not-no_more : goal.returns-else-not-no_more
@@ -109,11 +109,11 @@ returns-else-not-no_more g c =
     let level = c.level.ensures in
     let higher : length (ranks c.args.here) ≡ n → ⊥ = λ e. omega (arith, c.if-level-held.false) in
     let v = c.in-Some.bound in
-    let test = ap (λ x. p.no_more x v) (sym c.requires.1) ∙ sym c.no_more-in-Some.ensures in
+    let test = ap (λ x. p.no_more x v) (sym c.requires.price) ∙ sym c.no_more-in-Some.ensures in
     record {
       size = refl;
       state = sym (below_dropped n answer costs best rest here higher (Some v) c.in-Some.ensures v refl (test ∙ c.if-not-no_more.false));
-      price = c.requires.1;
+      price = c.requires.price;
     }
 
 pub returns-in_default : goal.returns-in_default
@@ -135,5 +135,5 @@ returns-in_default g c =
     record {
       size = refl;
       state = sym (below_late n answer costs best rest here higher None c.in_default.ensures refl);
-      price = c.requires.1;
+      price = c.requires.price;
     }
