@@ -13,7 +13,7 @@ refused_as : {A P Q : Type 0} (f : Outcome → A) (r : Result Outcome Fault) (x 
 refused_as {A} {P} {Q} f (Ok o) x e h s = subst (λ y. IfErr y (λ _. Q)) (sym e) tt
 refused_as {A} {P} {Q} f (Err o) x e h s = subst (λ y. IfErr y (λ _. Q)) (sym e) (h s)
 
-module _ {T C V A : Type 0} (f : Outcome → A) (w : Meaning V) (command : Command) (p q : Plan T C V) where
+module _ {T C V A : Type 0} (f : Outcome → A) (w : Meaning V) (command : Command) (p q : Plan T C) where
   pub called : (left : List ℕ) (r : Result Outcome Fault) (x : Result A Fault) → Obeyed w command p q [] left r → x ≡ answered f r
       → Called f w command p q x
   called left r x o e = record {

@@ -61,7 +61,7 @@ module _ {V : Type 0} (w : Meaning V) where
 
 module _ {V : Type 0} (w : Meaning V) (start : Point) (cs : List Command) where
   -- one command more
-  pub run_more : {T C : Type 0} (i : ℕ) (c : Command) (xs : List (Result Outcome Fault)) (v : Meaning V) (p q : Plan T C V) (old left : List ℕ)
+  pub run_more : {T C : Type 0} (i : ℕ) (c : Command) (xs : List (Result Outcome Fault)) (v : Meaning V) (p q : Plan T C) (old left : List ℕ)
       (x : Result Outcome Fault) → i < length cs → xs ≡ outcomes (events w start (take i cs)) → at p old ≡ after w start (take i cs) → v ≡ w
       → Obeyed v (get_or cs i c) p q old left x
       → (xs ++ x ∷ [] ≡ outcomes (events w start (take (i + 1) cs))) × (at q left ≡ after w start (take (i + 1) cs))
@@ -99,9 +99,9 @@ ran_new {V} v w buffer cs xs start end lawful e s r =
 
 module _ {T C V : Type 0} (a : admission.Ghosts T) (t : test.Ghosts T) (k : cost.Ghosts C V) where
   -- a plan means the same while it has its test and its cost
-  pub means_same : (p q : Plan T C V) → q.test ≡ p.test → q.cost ≡ p.cost → means a t k q ≡ means a t k p
+  pub means_same : (p q : Plan T C) → q.test ≡ p.test → q.cost ≡ p.cost → means a t k q ≡ means a t k p
   means_same p q e f = λ i. meaning t.number (a.admitted (e i)) (t.answer (e i)) k.number (k.prices (f i))
 
-  pub means_new : (p : Plan T C V) (x : T) (y : C) → p.test ≡ x → p.cost ≡ y
+  pub means_new : (p : Plan T C) (x : T) (y : C) → p.test ≡ x → p.cost ≡ y
       → means a t k p ≡ meaning t.number (a.admitted x) (t.answer x) k.number (k.prices y)
   means_new p x y e f = λ i. meaning t.number (a.admitted (e i)) (t.answer (e i)) k.number (k.prices (f i))

@@ -20,7 +20,7 @@ use Rattle.plan.specs.Ids.{Found}
 use Rattle.plan.specs.Calls.{at, Obeyed}
 use Rattle.plan.specs.Model.{model}
 
-module _ {T C V : Type 0} (w : Meaning V) (command : Command) (p : Plan T C V) (b : List ℕ) where
+module _ {T C V : Type 0} (w : Meaning V) (command : Command) (p : Plan T C) (b : List ℕ) where
   pub turned_down : (f : Fault) → fault w (model p) b command ≡ Some f → Obeyed w command p p b b (Err f)
   turned_down f e = record {
     reply = sym (ap (λ o. decided o (at p b) (effect w (model p) b command)) e);
@@ -29,7 +29,7 @@ module _ {T C V : Type 0} (w : Meaning V) (command : Command) (p : Plan T C V) (
     same = (refl, refl);
   }
 
-  pub accepted_in : (q : Plan T C V) (b' : List ℕ) (o : Outcome) → fault w (model p) b command ≡ None
+  pub accepted_in : (q : Plan T C) (b' : List ℕ) (o : Outcome) → fault w (model p) b command ≡ None
       → ◌≡◌ {A = Reply} (record { answer = Ok o; next = at q b' }) (effect w (model p) b command)
       → q.test ≡ p.test → q.cost ≡ p.cost → Obeyed w command p q b b' (Ok o)
   accepted_in q b' o e is t c = record {
@@ -39,13 +39,13 @@ module _ {T C V : Type 0} (w : Meaning V) (command : Command) (p : Plan T C V) (
     same = tt;
   }
 
-  pub accepted : (q : Plan T C V) (o : Outcome) → fault w (model p) b command ≡ None
+  pub accepted : (q : Plan T C) (o : Outcome) → fault w (model p) b command ≡ None
       → ◌≡◌ {A = Reply} (record { answer = Ok o; next = at q b }) (effect w (model p) b command)
       → q.test ≡ p.test → q.cost ≡ p.cost → Obeyed w command p q b b (Ok o)
   accepted q o e is t c = accepted_in q b o e is t c
 
 -- what is owed at a command is owed at its equal
-pub obeyed_as : {T C V : Type 0} {w : Meaning V} {c d : Command} {p q : Plan T C V} {old left : List ℕ} {r : Result Outcome Fault} → c ≡ d
+pub obeyed_as : {T C V : Type 0} {w : Meaning V} {c d : Command} {p q : Plan T C} {old left : List ℕ} {r : Result Outcome Fault} → c ≡ d
     → Obeyed w d p q old left r → Obeyed w c p q old left r
 obeyed_as {w = w} {p = p} {q = q} {old = old} {left = left} {r = r} e o = subst (λ x. Obeyed w x p q old left r) (sym e) o
 

@@ -48,10 +48,10 @@ pub unstarted : (o : Option Assignment) (n : ℕ) (began : Bool) (before after :
 unstarted None n began before after e h = (refl, h.1)
 unstarted (Some first) n began before after e h = absurd (clash (sym e ∙ h.0))
 
-module _ {T C V : Type 0} (p : Plan T C V) where
+module _ {T C : Type 0} (p : Plan T C) where
   -- a plan whose search is the one that it was
   pub same_plan : (s : Search) (m : matched p.state (length (plains p.tasks)) s.size ≡ true) → s ≡ p.search
-      → ◌≡◌ {A = Plan T C V} (record { test = p.test; cost = p.cost; tasks = p.tasks; state = p.state; search = s; matched = m }) p
+      → ◌≡◌ {A = Plan T C} (record { test = p.test; cost = p.cost; tasks = p.tasks; state = p.state; search = s; matched = m }) p
   same_plan s m e = λ i. record {
     test = p.test;
     cost = p.cost;
@@ -62,14 +62,14 @@ module _ {T C V : Type 0} (p : Plan T C V) where
         (λ j. Bool-set (matched p.state (length (plains p.tasks)) (e j).size) true) m p.matched i;
   }
 
-  pub no_order : (w : Meaning V) (q : Plan T C V) (b : List ℕ) → is_searching (model p).stage ≡ false → 0 < length (plains p.tasks)
+  pub no_order : {V : Type 0} (w : Meaning V) (q : Plan T C) (b : List ℕ) → is_searching (model p).stage ≡ false → 0 < length (plains p.tasks)
       → first_of w (plains p.tasks) ≡ None → q ≡ p → Obeyed w Start p q b b (Err (PlanFault plan.NoOrder))
   no_order w q b idle some none same =
       let held : ltb 0 (length (plains p.tasks)) ≡ true = lt-ltb _ _ some in
       let why : fault w (model p) b Start ≡ Some (PlanFault plan.NoOrder) = rw (idle, held, none) refl in
       subst (λ x. Obeyed w Start p x b b (Err (PlanFault plan.NoOrder))) (sym same) (turned_down w Start p b (PlanFault plan.NoOrder) why)
 
-  pub begun_search : (w : Meaning V) (q : Plan T C V) (b : List ℕ) → is_searching (model p).stage ≡ false → 0 < length (plains p.tasks)
+  pub begun_search : {V : Type 0} (w : Meaning V) (q : Plan T C) (b : List ℕ) → is_searching (model p).stage ≡ false → 0 < length (plains p.tasks)
       → (first : Assignment) → first_of w (plains p.tasks) ≡ Some first
       → model q ≡ record { tasks = plains p.tasks; stage = searching (orders.begun (length (plains p.tasks)) first) }
       → q.test ≡ p.test → q.cost ≡ p.cost → Obeyed w Start p q b b (Ok Started)

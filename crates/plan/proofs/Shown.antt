@@ -61,7 +61,7 @@ module _ {V : Type 0} (w : Meaning V) (m : Model) (best : Assignment) (st : m.st
   pub shown_best : (ls : List (ℕ × ℕ)) → ls ≡ map shown (levels m.tasks best.order best.times) → ls ≡ map shown (best_levels m)
   shown_best ls e = e ∙ ap (λ s. map shown (levels m.tasks (best_of s).order (best_of s).times)) (sym st)
 
-module _ {T C V : Type 0} (w : Meaning V) (p : Plan T C V) (b b' bytes : List ℕ) (best : Assignment)
+module _ {T C V : Type 0} (w : Meaning V) (p : Plan T C) (b b' bytes : List ℕ) (best : Assignment)
     (st : (model p).stage ≡ finished best) (is : bytes ≡ report (model p)) where
   report_fault : fault w (model p) b Report ≡ unless (leb (length bytes) (length b)) (PlanFault plan.Buffer) None
   report_fault =

@@ -34,7 +34,7 @@ reported Started = record { bytes = 0; first = 0; second = 0 }
 reported (Advanced count finished) = record { bytes = 0; first = 0; second = 0 }
 reported (ReportedOutcome bytes first second) = record { bytes = bytes; first = first; second = second }
 
-module _ {T C V A : Type 0} (f : Outcome → A) (w : Meaning V) (command : Command) (before after : Plan T C V) where
+module _ {T C V A : Type 0} (f : Outcome → A) (w : Meaning V) (command : Command) (before after : Plan T C) where
   -- a call that obeys a command: the answer, and the plan after it
   pub record Called (answer : Result A Fault) : Type 0 where
     pub answers : answer ≡ answered f (obey w (at before []) command).answer

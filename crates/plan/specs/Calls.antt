@@ -8,18 +8,18 @@ use Rattle.law.specs.Obey.{Point, Reply, obey}
 use Rattle.plan.specs.declared.plan.Plan.{Plan}
 use Rattle.plan.specs.Model.{model}
 
-module _ {T C V : Type 0} where
+module _ {T C : Type 0} where
   -- a plan with the buffer for its reports
-  abbrev pub at : Plan T C V → List ℕ → Point
+  abbrev pub at : Plan T C → List ℕ → Point
   at p buffer = record { plan = model p; buffer = buffer }
 
   -- a call that is turned down leaves the whole plan and the buffer as they were
-  abbrev pub Unchanged : Plan T C V → Plan T C V → List ℕ → List ℕ → Type 0
+  abbrev pub Unchanged : Plan T C → Plan T C → List ℕ → List ℕ → Type 0
   Unchanged before after old new = (after ≡ before) × (new ≡ old)
 
   -- a command is obeyed: the answer, the plan after it and the buffer after it are the defined ones; the plan keeps its test and
   -- its cost
-  pub record Obeyed (w : Meaning V) (command : Command) (before after : Plan T C V) (old new : List ℕ) (answer : Result Outcome Fault)
+  pub record Obeyed {V : Type 0} (w : Meaning V) (command : Command) (before after : Plan T C) (old new : List ℕ) (answer : Result Outcome Fault)
       : Type 0 where
     pub reply : record { answer = answer; next = at after new } ≡ obey w (at before old) command
     pub test : after.test ≡ before.test

@@ -18,9 +18,9 @@ stage Searching s = searching s
 stage Finished s = finished s.best
 
 -- the held tasks as plain numbers, and the stage
-abbrev pub model : {T C V : Type 0} → Plan T C V → Model
+abbrev pub model : {T C : Type 0} → Plan T C → Model
 model p = record { tasks = plains p.tasks; stage = stage p.state (search.state p.search) }
 
 -- the meaning of its test and of its cost
-abbrev pub means : {T C V : Type 0} → admission.Ghosts T → test.Ghosts T → cost.Ghosts C V → Plan T C V → Meaning V
+abbrev pub means : {T C V : Type 0} → admission.Ghosts T → test.Ghosts T → cost.Ghosts C V → Plan T C → Meaning V
 means a t c p = meaning t.number (a.admitted p.test) (t.answer p.test) c.number (c.prices p.cost)

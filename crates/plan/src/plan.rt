@@ -4,8 +4,6 @@ ghost use Rattle.tasks.specs.Lists.{plains};
 ghost use Rattle.plan.specs.States.{matched as over_the_held};
 
 use crate::state::State;
-use costs::cost::Cost;
-use response::test::ResponseTest;
 use search::search::Search;
 use tasks::list::TaskList;
 
@@ -23,7 +21,7 @@ mod seek;
 
 // The tasks ascend by id. Nothing here depends on what the test or the cost answers.
 #[derive(Drop)]
-pub struct Plan<T: ResponseTest, C: Cost> {
+pub struct Plan<T, C> {
     test: T,
     cost: C,
     tasks: TaskList,

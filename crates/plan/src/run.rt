@@ -20,8 +20,8 @@ pub fn run<T: ResponseTest + Drop, C: Cost + Drop>(
     commands: &[Command],
     out: &mut [u8],
 ) -> Result<Vec<Result<Outcome, Fault>>, AllocError>
-    ensures ran { MatchResult result (λ v. RanFrom (means T.Admission T.ResponseTest C.Cost plan.old) commands.now (at plan.old out.old) v.items (at plan.new out.new)) (λ _. Unchanged plan.old plan.new out.old out.new) }
-    ensures led { OnOk result (LedOn (means T.Admission T.ResponseTest C.Cost plan.old) commands.now (model plan.old) (model plan.new)) }
+    ensures ran { MatchResult result (λ v. RanFrom (means T.Admission T.ResponseTest.own C.Cost plan.old) commands.now (at plan.old out.old) v.items (at plan.new out.new)) (λ _. Unchanged plan.old plan.new out.old out.new) }
+    ensures led { OnOk result (LedOn (means T.Admission T.ResponseTest.own C.Cost plan.old) commands.now (model plan.old) (model plan.new)) }
 {
     let mut answers = Vec::with_capacity(heap, commands.len())?;
     for command in commands {

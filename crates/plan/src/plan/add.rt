@@ -18,7 +18,7 @@ impl<T: ResponseTest + Drop, C: Cost + Drop> Plan<T, C> {
     // Takes one task more.
     pub(crate) fn add_task(&mut self, candidate: Candidate) -> Result<Outcome, Fault>
         requires { is_searching (model self.old).stage ≡ false }
-        ensures { (b : List ℕ) → Obeyed (means T.Admission T.ResponseTest C.Cost self.old) (Add candidate) self.old self.new b b result }
+        ensures { (b : List ℕ) → Obeyed (means T.Admission T.ResponseTest.own C.Cost self.old) (Add candidate) self.old self.new b b result }
     {
         let task = candidate.check(0)?;
         if !self.test.admits(task.timing()) {

@@ -14,7 +14,7 @@ use tasks::fault::{Fault, PlanFault};
 impl<T: ResponseTest + Drop, C: Cost + Drop> Plan<T, C> {
     // Matches the state together with the command.
     fn act(&mut self, command: Command, out: &mut [u8]) -> Result<Outcome, Fault>
-        ensures { Obeyed (means T.Admission T.ResponseTest C.Cost self.old) command.entry self.old self.new out.old out.new result }
+        ensures { Obeyed (means T.Admission T.ResponseTest.own C.Cost self.old) command.entry self.old self.new out.old out.new result }
     {
         match (self.state, command) {
             (
@@ -39,8 +39,8 @@ impl<T: ResponseTest + Drop, C: Cost + Drop> Plan<T, C> {
     // Does what a command says, or says why not. Only a report writes into the buffer. Where some commands on a new plan led to
     // this one, they and this command lead to the plan after it, and every promise holds throughout.
     pub fn apply(&mut self, command: Command, out: &mut [u8]) -> Result<Outcome, Fault>
-        ensures obeyed { Obeyed (means T.Admission T.ResponseTest C.Cost self.old) command.entry self.old self.new out.old out.new result }
-        ensures led { LedOn (means T.Admission T.ResponseTest C.Cost self.old) (command.entry ∷ []) (model self.old) (model self.new) }
+        ensures obeyed { Obeyed (means T.Admission T.ResponseTest.own C.Cost self.old) command.entry self.old self.new out.old out.new result }
+        ensures led { LedOn (means T.Admission T.ResponseTest.own C.Cost self.old) (command.entry ∷ []) (model self.old) (model self.new) }
     {
         self.act(command, out)
     }

@@ -16,7 +16,7 @@ use tasks::set::TaskSet;
 impl<T: ResponseTest + Drop, C: Cost + Drop> Plan<T, C> {
     // The response time of the task of an id, with the tasks of a set of ids above it; none where it is late.
     pub fn ask(&self, id: u8, above: u64) -> Result<Option<u32>, Fault>
-        ensures { result ≡ asked (means T.Admission T.ResponseTest C.Cost self.now) (model self.now).tasks id above }
+        ensures { result ≡ asked (means T.Admission T.ResponseTest.own C.Cost self.now) (model self.now).tasks id above }
     {
         let held = self.tasks.as_slice();
         let ids = TaskSet { word: above };
@@ -34,7 +34,7 @@ impl<T: ResponseTest + Drop, C: Cost + Drop> Plan<T, C> {
 
     // Packs the tasks into a buffer, and returns the count of bytes written.
     pub fn write(&self, out: &mut [u8]) -> Result<usize, Fault>
-        ensures { (result, out.new) ≡ delivered (length (table (means T.Admission T.ResponseTest C.Cost self.now) (model self.now).tasks)) (table (means T.Admission T.ResponseTest C.Cost self.now) (model self.now).tasks) out.old }
+        ensures { (result, out.new) ≡ delivered (length (table (means T.Admission T.ResponseTest.own C.Cost self.now) (model self.now).tasks)) (table (means T.Admission T.ResponseTest.own C.Cost self.now) (model self.now).tasks) out.old }
     {
         encode(self.codes(), &self.tasks, out)
     }

@@ -68,7 +68,7 @@ fn as_reported(answer: Result<Outcome, Fault>) -> Result<Reported, Fault>
 impl<T: ResponseTest + Drop, C: Cost + Drop> Plan<T, C> {
     // Replaces all tasks by those of a table, or none.
     pub fn load(&mut self, file: &[u8]) -> Result<(), Fault>
-        ensures { Called done (means T.Admission T.ResponseTest C.Cost self.old) (Load file.entry) self.old self.new result }
+        ensures { Called done (means T.Admission T.ResponseTest.own C.Cost self.old) (Load file.entry) self.old self.new result }
     {
         match self.state {
             State::Searching => Err(Fault::Plan(PlanFault::Searching)),
@@ -78,7 +78,7 @@ impl<T: ResponseTest + Drop, C: Cost + Drop> Plan<T, C> {
 
     // Takes one task more.
     pub fn add(&mut self, candidate: Candidate) -> Result<(), Fault>
-        ensures { Called done (means T.Admission T.ResponseTest C.Cost self.old) (Add candidate) self.old self.new result }
+        ensures { Called done (means T.Admission T.ResponseTest.own C.Cost self.old) (Add candidate) self.old self.new result }
     {
         match self.state {
             State::Searching => Err(Fault::Plan(PlanFault::Searching)),
@@ -88,7 +88,7 @@ impl<T: ResponseTest + Drop, C: Cost + Drop> Plan<T, C> {
 
     // Lets go of the task of that id.
     pub fn drop(&mut self, id: u8) -> Result<(), Fault>
-        ensures { Called done (means T.Admission T.ResponseTest C.Cost self.old) (Drop id) self.old self.new result }
+        ensures { Called done (means T.Admission T.ResponseTest.own C.Cost self.old) (Drop id) self.old self.new result }
     {
         match self.state {
             State::Searching => Err(Fault::Plan(PlanFault::Searching)),
@@ -98,7 +98,7 @@ impl<T: ResponseTest + Drop, C: Cost + Drop> Plan<T, C> {
 
     // Makes the first order, and begins a search with it.
     pub fn start(&mut self) -> Result<(), Fault>
-        ensures { Called done (means T.Admission T.ResponseTest C.Cost self.old) Start self.old self.new result }
+        ensures { Called done (means T.Admission T.ResponseTest.own C.Cost self.old) Start self.old self.new result }
     {
         match self.state {
             State::Searching => Err(Fault::Plan(PlanFault::Searching)),
@@ -108,7 +108,7 @@ impl<T: ResponseTest + Drop, C: Cost + Drop> Plan<T, C> {
 
     // Examines `count` vertices, at most 1,000,000, or all that are left if fewer.
     pub fn advance(&mut self, count: u32) -> Result<Progress, Fault>
-        ensures { Called progress (means T.Admission T.ResponseTest C.Cost self.old) (Advance count) self.old self.new result }
+        ensures { Called progress (means T.Admission T.ResponseTest.own C.Cost self.old) (Advance count) self.old self.new result }
     {
         match self.state {
             State::Open => Err(Fault::Plan(PlanFault::Open)),
@@ -119,7 +119,7 @@ impl<T: ResponseTest + Drop, C: Cost + Drop> Plan<T, C> {
 
     // Gives up the search, or what it found.
     pub fn stop(&mut self) -> Result<(), Fault>
-        ensures { Called done (means T.Admission T.ResponseTest C.Cost self.old) Stop self.old self.new result }
+        ensures { Called done (means T.Admission T.ResponseTest.own C.Cost self.old) Stop self.old self.new result }
     {
         match self.state {
             State::Open => Err(Fault::Plan(PlanFault::Open)),
@@ -129,7 +129,7 @@ impl<T: ResponseTest + Drop, C: Cost + Drop> Plan<T, C> {
 
     // Writes the best order of a finished plan, four bytes a level.
     pub fn report(&self, out: &mut [u8]) -> Result<Reported, Fault>
-        ensures { CalledWith reported (means T.Admission T.ResponseTest C.Cost self.now) Report self.now self.now out.old out.new result }
+        ensures { CalledWith reported (means T.Admission T.ResponseTest.own C.Cost self.now) Report self.now self.now out.old out.new result }
     {
         match self.state {
             State::Open => Err(Fault::Plan(PlanFault::Open)),

@@ -17,7 +17,7 @@ impl<T: ResponseTest + Drop, C: Cost + Drop> Plan<T, C> {
     // Lets go of the task of that id.
     pub(crate) fn drop_task(&mut self, id: u8) -> Result<Outcome, Fault>
         requires { is_searching (model self.old).stage ≡ false }
-        ensures { (b : List ℕ) → Obeyed (means T.Admission T.ResponseTest C.Cost self.old) (Drop id) self.old self.new b b result }
+        ensures { (b : List ℕ) → Obeyed (means T.Admission T.ResponseTest.own C.Cost self.old) (Drop id) self.old self.new b b result }
     {
         let Some(at) = find(self.tasks.as_slice(), id) else {
             return Err(Fault::Plan(PlanFault::NotHeld));

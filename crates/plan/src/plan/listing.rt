@@ -16,7 +16,7 @@ impl<T: ResponseTest + Drop, C: Cost + Drop> Plan<T, C> {
     // Writes a line for each level and the line of the cost.
     fn write_listing(&self, out: &mut [u8]) -> Result<usize, Fault>
         requires { self.now.state ≡ State.Finished }
-        ensures { (result, out.new) ≡ delivered 512 (listing_text (means T.Admission T.ResponseTest C.Cost self.now) (model self.now)) out.old }
+        ensures { (result, out.new) ≡ delivered 512 (listing_text (means T.Admission T.ResponseTest.own C.Cost self.now) (model self.now)) out.old }
     {
         let best = self.search.best();
         let levels = levels_of(self.tasks.as_slice(), &best);
@@ -28,7 +28,7 @@ impl<T: ResponseTest + Drop, C: Cost + Drop> Plan<T, C> {
 
     // Writes the listing of a finished plan into at least 512 bytes, and returns the count of bytes written.
     pub fn listing(&self, out: &mut [u8]) -> Result<usize, Fault>
-        ensures { (result, out.new) ≡ listed (means T.Admission T.ResponseTest C.Cost self.now) (model self.now) out.old }
+        ensures { (result, out.new) ≡ listed (means T.Admission T.ResponseTest.own C.Cost self.now) (model self.now) out.old }
     {
         match self.state {
             State::Open => Err(Fault::Plan(PlanFault::Open)),

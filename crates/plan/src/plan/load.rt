@@ -29,7 +29,7 @@ impl<T: ResponseTest + Drop, C: Cost + Drop> Plan<T, C> {
     // Replaces all tasks by those of a table, or none.
     pub(crate) fn replace_tasks(&mut self, file: &[u8]) -> Result<Outcome, Fault>
         requires { is_searching (model self.old).stage ≡ false }
-        ensures { (b : List ℕ) → Obeyed (means T.Admission T.ResponseTest C.Cost self.old) (Load file.entry) self.old self.new b b result }
+        ensures { (b : List ℕ) → Obeyed (means T.Admission T.ResponseTest.own C.Cost self.old) (Load file.entry) self.old self.new b b result }
     {
         let tasks = decode(&self.test, self.codes(), file)?;
         self.tasks = tasks;

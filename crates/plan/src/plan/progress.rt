@@ -11,7 +11,7 @@ use response::test::ResponseTest;
 impl<T: ResponseTest + Drop, C: Cost + Drop> Plan<T, C> {
     // The two numbers of the cost of the best order so far; none while the plan is open.
     pub fn best_cost(&self) -> Option<(u64, u64)>
-        ensures { result ≡ best_cost (means T.Admission T.ResponseTest C.Cost self.now) (model self.now).tasks (model self.now).stage }
+        ensures { result ≡ best_cost (means T.Admission T.ResponseTest.own C.Cost self.now) (model self.now).tasks (model self.now).stage }
     {
         match self.state {
             State::Open => None,

@@ -17,7 +17,7 @@ impl<T: ResponseTest + Drop, C: Cost + Drop> Plan<T, C> {
     // Writes the ids and response times of the best order, and gives the count of bytes and the two numbers of its cost.
     pub(crate) fn write_report(&self, out: &mut [u8]) -> Result<Outcome, Fault>
         requires { self.now.state ≡ State.Finished }
-        ensures { Obeyed (means T.Admission T.ResponseTest C.Cost self.now) Report self.now self.now out.old out.new result }
+        ensures { Obeyed (means T.Admission T.ResponseTest.own C.Cost self.now) Report self.now self.now out.old out.new result }
     {
         let best = self.search.best();
         let levels = levels_of(self.tasks.as_slice(), &best);

@@ -19,7 +19,7 @@ impl<T: ResponseTest + Drop, C: Cost + Drop> Plan<T, C> {
     // Makes the first order, and begins a search with it.
     pub(crate) fn begin_search(&mut self) -> Result<Outcome, Fault>
         requires { is_searching (model self.old).stage ≡ false }
-        ensures { (b : List ℕ) → Obeyed (means T.Admission T.ResponseTest C.Cost self.old) Start self.old self.new b b result }
+        ensures { (b : List ℕ) → Obeyed (means T.Admission T.ResponseTest.own C.Cost self.old) Start self.old self.new b b result }
     {
         let held = self.tasks.as_slice();
         if held.len() == 0 {
@@ -35,7 +35,7 @@ impl<T: ResponseTest + Drop, C: Cost + Drop> Plan<T, C> {
     // Examines `count` vertices, or all that are left.
     pub(crate) fn examine(&mut self, count: u32) -> Result<Outcome, Fault>
         requires { self.old.state ≡ State.Searching }
-        ensures { (b : List ℕ) → Obeyed (means T.Admission T.ResponseTest C.Cost self.old) (Advance count) self.old self.new b b result }
+        ensures { (b : List ℕ) → Obeyed (means T.Admission T.ResponseTest.own C.Cost self.old) (Advance count) self.old self.new b b result }
     {
         if count > MOST_STEPS {
             return Err(Fault::Plan(PlanFault::Steps));
@@ -55,7 +55,7 @@ impl<T: ResponseTest + Drop, C: Cost + Drop> Plan<T, C> {
     // A finished search goes no further.
     pub(crate) fn rest(&self, count: u32) -> Result<Outcome, Fault>
         requires { self.now.state ≡ State.Finished }
-        ensures { (b : List ℕ) → Obeyed (means T.Admission T.ResponseTest C.Cost self.now) (Advance count) self.now self.now b b result }
+        ensures { (b : List ℕ) → Obeyed (means T.Admission T.ResponseTest.own C.Cost self.now) (Advance count) self.now self.now b b result }
     {
         if count > MOST_STEPS {
             return Err(Fault::Plan(PlanFault::Steps));
@@ -69,7 +69,7 @@ impl<T: ResponseTest + Drop, C: Cost + Drop> Plan<T, C> {
     // Gives up the search, or what it found.
     pub(crate) fn end_search(&mut self) -> Result<Outcome, Fault>
         requires { is_open (model self.old).stage ≡ false }
-        ensures { (b : List ℕ) → Obeyed (means T.Admission T.ResponseTest C.Cost self.old) Stop self.old self.new b b result }
+        ensures { (b : List ℕ) → Obeyed (means T.Admission T.ResponseTest.own C.Cost self.old) Stop self.old self.new b b result }
     {
         self.state = State::Open;
         Ok(Outcome::Done)

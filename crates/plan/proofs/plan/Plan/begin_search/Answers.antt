@@ -17,7 +17,7 @@ returns-then-not-start g c =
     λ b. no_order p w _ b c.requires some none.0 (same_plan p c.start.new.self _ none.1)
 
 pub invariant_of-self-2 : goal.invariant_of-self-2
-invariant_of-self-2 g c = (eq-eqb _ _ (sym (c.start.ensures.size c.if-not-start.false)), tt)
+invariant_of-self-2 g c = record { matched = eq-eqb _ _ (sym (c.start.ensures.size c.if-not-start.false)) }
 
 pub returns : goal.returns
 returns g c =

@@ -35,6 +35,6 @@ returns g c =
     let is : ls ≡ map shown (levels (plains p.tasks) best.order best.times)
     = shown_levels c.levels_of-levels.result c.level.result (length (ranks c.best-best.result)) (map plain c.as_slice.result.now) (plains p.tasks)
     (ranked c.best-best.result) best c.level.ensures c.levels_of-levels.ensures.value (ap (map plain) c.as_slice.ensures.items) c.best-best.ensures in
-    let costs = shown_cost w (model p) best st c.best_cost.result c.shown_cost.result c.best_cost.ensures c.shown_cost.ensures in
+    let costs = shown_cost w (model p) best st c.best_cost.result c.shown-cost.result c.best_cost.ensures c.shown-cost.ensures in
     let lines = shown_best w (model p) best st ls is in
     c.listing.ensures.written ∙ (λ i. delivered 512 (listing_text (lines i) (costs i)) c.args.out.now)
