@@ -1,5 +1,5 @@
 -- Pairs of the largest and the total, compared by the largest first.
-use Rattle.std.specs.Prelude.{◌≡◌, ℕ, ◌+◌, max, Bool, ◌&&◌, ◌||◌, ◌==◌, nat_le, nat_lt}
+use Rattle.std.specs.Prelude.{◌≡◌, ◌+◌, max, Bool, ◌&&◌, ◌||◌, ◌==◌, nat_le, nat_lt}
 use Rattle.costs.specs.Prices.{Prices, Lawful}
 use Rattle.costs_tests.specs.declared.largest.Pair.{Pair}
 

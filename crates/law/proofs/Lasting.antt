@@ -1,5 +1,5 @@
 -- While nothing that ends it is accepted, a search is as many steps on as its accepted advances add up to.
-use Rattle.std.proofs.Common.{◌≡◌, ℕ, ◌+◌, ◌≤◌, true, false, cond, ◌&&◌, List, [], ◌∷◌, ◌++◌, length, is_ok, sym, ap, ◌∙◌, subst, add-zero, add_assoc, arith}
+use Rattle.std.proofs.Common.{◌≡◌, ℕ, ◌+◌, ◌≤◌, true, false, cond, ◌&&◌, List, [], ◌∷◌, length, is_ok, sym, ap, ◌∙◌, subst, add-zero, add_assoc, arith}
 use Rattle.std.proofs.lemmas.Bool.{true≢false, false≢true}
 use Rattle.tasks.specs.declared.task.Candidate.{Candidate}
 use Rattle.orders.specs.Orders.{Assignment}

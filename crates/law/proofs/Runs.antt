@@ -3,7 +3,7 @@ use Rattle.std.proofs.Common.{◌≡◌, List, [], ◌∷◌, ◌++◌, refl, ap
 use Rattle.law.specs.declared.command.Command.{Command}
 use Rattle.law.specs.Meaning.{Meaning}
 use Rattle.law.specs.Obey.{Point, obey}
-use Rattle.law.specs.Runs.{Event, after, events}
+use Rattle.law.specs.Runs.{after, events}
 
 module _ {V : Type 0} (w : Meaning V) where
   pub after_append : (p : Point) (cs ds : List Command) → after w p (cs ++ ds) ≡ after w (after w p cs) ds

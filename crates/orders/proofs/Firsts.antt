@@ -1,7 +1,7 @@
 -- The first order is none exactly if every order fails, and else it passes.
 use Rattle.std.proofs.Common.{◌≡◌, ℕ, zero, suc, ◌+◌, ◌<◌, ◌≤◌, ◌⊎◌, List, [], ◌∷◌, ◌++◌, length, Some, None, Option, sym, refl, ap, ◌∙◌, subst, inl, inr, arith}
 use Rattle.std.proofs.lemmas.Bool.{cases_eq, cases_lt, cases_cond}
-use Rattle.orders.specs.Orders.{word, count, unplaced, Order, Test, Monotone, Assignment, Passes, times}
+use Rattle.orders.specs.Orders.{word, count, unplaced, Order, Test, Monotone, Assignment, Passes}
 use Rattle.orders.specs.Costs.{Cost}
 use Rattle.orders.specs.First.{Choice, from, cheaper, cheapest, first_above, first_order}
 use Rattle.orders.specs.Theorems.{under_others, FirstOrderIsExact}

@@ -2,7 +2,7 @@
 use Rattle.std.proofs.Common.{◌≡◌, ℕ, zero, suc, ◌+◌, ◌-◌, ◌*◌, ◌<◌, ◌≤◌, List, [], ◌∷◌, ◌++◌, map, length, refl, ap, subst, append-nil, suc-mul, mul-suc, mul-add, arith, length-append}
 use Rattle.std.specs.List.{AllByRecursion as All}
 use Rattle.std.proofs.ByRecursion.{All-append, All-weaker}
-use Rattle.orders.specs.Orders.{unplaced, Test, Assignment, times}
+use Rattle.orders.specs.Orders.{unplaced, Test, Assignment}
 use Rattle.orders.specs.Costs.{Cost}
 use Rattle.orders.specs.Search.{better}
 use Rattle.orders.proofs.Paths.{Path, Paths, entering, begun, examine, examine_active, steps, PathsFew}

@@ -2,7 +2,7 @@
 use Rattle.std.proofs.Common.{◌≡◌, ℕ, zero, suc, ◌+◌, ◌*◌, sym, refl, ap, ◌∙◌, mul-add, arith}
 use Rattle.tasks.specs.Numbers.{sum_below}
 use Rattle.tasks.proofs.Ranges.{sum_front}
-use Rattle.orders.specs.Search.{vertices, arrangements}
+use Rattle.orders.specs.Search.{arrangements}
 use Rattle.orders.specs.Theorems.{VerticesByLevel}
 
 sum_times : (k n : ℕ) (f : ℕ → ℕ) → sum_below n (λ l. k * f l) ≡ k * sum_below n f

@@ -1,5 +1,5 @@
 -- One task more or less among the held tasks.
-use Rattle.std.proofs.Common.{◌≡◌, ℕ, suc, ◌+◌, ◌-◌, Bool, true, false, cond, ◌||◌, eqb, ltb, List, [], ◌∷◌, ◌++◌, map, length, take, drop, sym, refl, ap, ◌∙◌, append_assoc, add-one}
+use Rattle.std.proofs.Common.{◌≡◌, ℕ, suc, ◌+◌, ◌-◌, Bool, true, false, cond, ◌||◌, eqb, ltb, List, [], ◌∷◌, ◌++◌, map, length, take, drop, refl, ap, append_assoc, add-one}
 use native.Mathlib.Nat.{sub-zero}
 use Rattle.std.specs.List.{remove}
 use Rattle.std.proofs.lemmas.List.{take_rest, map-append, take-map, drop-map}

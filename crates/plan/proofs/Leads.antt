@@ -1,5 +1,5 @@
 -- Where commands lead a plan.
-use Rattle.std.proofs.Common.{◌≡◌, ℕ, ◌+◌, ◌<◌, ◌≤◌, List, [], ◌∷◌, ◌++◌, map, length, get_or, take, Some, None, Option, Result, sym, refl, ap, ◌∙◌, subst}
+use Rattle.std.proofs.Common.{◌≡◌, ℕ, ◌+◌, ◌<◌, ◌≤◌, List, [], ◌∷◌, ◌++◌, length, get_or, take, Some, None, Option, Result, sym, refl, ap, ◌∙◌}
 use mathlib.Core.List.{map-append}
 use Rattle.std.proofs.lemmas.List.{take_more, take_all}
 use Rattle.tasks.specs.declared.fault.Fault.{Fault}
@@ -17,8 +17,8 @@ use Rattle.law.proofs.Kept.{every_run_keeps_the_promises}
 use Rattle.law.proofs.Runs.{after_append, events_append}
 use Rattle.plan.specs.declared.plan.Plan.{Plan}
 use Rattle.plan.specs.Calls.{Obeyed, at}
-use Rattle.plan.specs.Leading.{Led, LedOn, RanFrom}
-use Rattle.plan.specs.Model.{model, means}
+use Rattle.plan.specs.Leading.{LedOn, RanFrom}
+use Rattle.plan.specs.Model.{means}
 
 -- the plan after a command does not depend on the buffer
 same_fault : (o : Option Fault) (p q : Point) (r s : Reply) → p.plan ≡ q.plan → r.next.plan ≡ s.next.plan

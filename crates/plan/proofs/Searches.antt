@@ -1,9 +1,8 @@
 -- A plan's state and its search.
-use Rattle.std.proofs.Common.{◌≡◌, ℕ, zero, suc, ◌<◌, ◌≤◌, Bool, true, false, cond, ltb, List, length, is_some, Some, None, Ok, Err, Option, sym, refl, ap, ◌∙◌, subst, arith, lt-ltb, eqb-true}
+use Rattle.std.proofs.Common.{◌≡◌, ℕ, zero, suc, ◌<◌, ◌≤◌, Bool, true, false, cond, ltb, List, length, Some, None, Ok, Err, Option, sym, refl, ap, ◌∙◌, subst, arith, lt-ltb, eqb-true}
 use mathlib.Core.HLevel.{is_prop→PathP}
 use borrow.Author.Tests.{clash}
 use mathlib.Core.Bool.{Bool-set}
-use Rattle.tasks.specs.declared.fault.Fault.{Fault}
 use Rattle.tasks.specs.declared.fault.Fault.TheVariants.{Plan as PlanFault}
 use Rattle.tasks.specs.declared.fault.PlanFault.TheVariants as plan
 use Rattle.tasks.specs.Lists.{plains}
@@ -12,14 +11,13 @@ use Rattle.orders.specs.Costs.{Cost}
 use Rattle.orders.specs.Search as orders
 use Rattle.search.specs.declared.search.Search.{Search}
 use Rattle.search.specs.Model as search
-use Rattle.law.specs.declared.command.Command.{Command}
 use Rattle.law.specs.declared.command.Command.TheVariants.{Start}
 use Rattle.law.specs.declared.command.Outcome.TheVariants.{Started}
 use Rattle.law.specs.Meaning.{Meaning}
-use Rattle.law.specs.Obey.{Model, searching, is_searching, fault, first_of, reply, started}
+use Rattle.law.specs.Obey.{searching, is_searching, fault, first_of, reply, started}
 use Rattle.plan.specs.declared.plan.Plan.{Plan}
 use Rattle.plan.specs.declared.state.State.{State}
-use Rattle.plan.specs.declared.state.State.TheVariants.{Open, Searching, Finished}
+use Rattle.plan.specs.declared.state.State.TheVariants.{Searching, Finished}
 use Rattle.plan.specs.States.{matched}
 use Rattle.plan.specs.Model.{model}
 use Rattle.plan.specs.Calls.{Obeyed}

@@ -1,5 +1,5 @@
 -- The levels of an order, in text and packed.
-use Rattle.std.proofs.Common.{◌≡◌, ℕ, ◌+◌, ◌-◌, ◌<◌, ◌≤◌, Bool, true, false, cond, not, ltb, leb, List, [], ◌∷◌, ◌++◌, map, length, get_or, take, drop, set, Some, None, Ok, Err, Result, sym, refl, ap, ◌∙◌, arith, ltb-false, ltb-true, le-leb}
+use Rattle.std.proofs.Common.{◌≡◌, ℕ, ◌+◌, ◌-◌, ◌<◌, Bool, true, false, cond, not, ltb, leb, List, [], ◌∷◌, ◌++◌, map, length, get_or, take, drop, set, None, Ok, Err, Result, sym, refl, ap, ◌∙◌, arith, ltb-false, ltb-true, le-leb}
 use native.Mathlib.Nat.{sub-zero}
 use borrow.Author.Tests.{lt-leb}
 use Rattle.std.proofs.lemmas.List.{take_more_set, map_push, map_more}
@@ -16,12 +16,11 @@ use Rattle.text.specs.declared.level.Level as text
 use Rattle.text.specs.Levels.{numbers}
 use Rattle.text.specs.Reports.{level_record, report_bytes}
 use Rattle.law.specs.declared.command.Command.TheVariants.{Report}
-use Rattle.law.specs.declared.command.Outcome.{Outcome}
 use Rattle.law.specs.declared.command.Outcome.TheVariants.{Reported}
 use Rattle.law.specs.Meaning.{Meaning}
-use Rattle.law.specs.Obey.{Model, Stage, Level, finished, is_open, is_finished, levels, level_bytes, best_levels, report, cost_of, best_of, fault, effect, reply, Reply}
+use Rattle.law.specs.Obey.{Model, Stage, Level, finished, is_open, is_finished, levels, level_bytes, best_levels, report, cost_of, best_of, fault, reply}
 use Rattle.plan.specs.declared.plan.Plan.{Plan}
-use Rattle.plan.specs.Calls.{Obeyed, at}
+use Rattle.plan.specs.Calls.{Obeyed}
 use Rattle.plan.specs.Listing.{shown}
 use Rattle.plan.specs.Model.{model}
 use Rattle.plan.proofs.Replies.{turned_down, accepted_in}

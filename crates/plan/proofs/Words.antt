@@ -1,5 +1,5 @@
 -- Sets of ids, one id or one position at a time.
-use Rattle.std.proofs.Common.{◌≡◌, ℕ, zero, suc, ◌+◌, ◌^◌, ◌<◌, ◌≤◌, Bool, true, false, cond, not, ◌&&◌, ◌||◌, ◌⊎◌, List, map, length, get_or, is_some, Some, None, Option, sym, refl, ap, ◌∙◌, inl, inr, add-one, arith}
+use Rattle.std.proofs.Common.{◌≡◌, ℕ, zero, suc, ◌+◌, ◌^◌, ◌<◌, Bool, true, false, ◌&&◌, List, get_or, is_some, Some, None, Option, sym, refl, inl, inr, add-one, arith}
 use Rattle.std.proofs.lemmas.Bool.{cases_lt}
 use Rattle.tasks.specs.declared.task.Candidate.{Candidate}
 use Rattle.tasks.specs.Numbers.{sum_below}
@@ -7,7 +7,7 @@ use Rattle.tasks.specs.Sets.{holds}
 use Rattle.tasks.proofs.Ranges.{sum_next}
 use Rattle.costs.specs.Folds.{no_task}
 use Rattle.law.specs.Held.{has}
-use Rattle.plan.specs.Ids.{Found, every_below, held_if_in, bit_if_in}
+use Rattle.plan.specs.Ids.{Found, every_below, bit_if_in}
 
 pub found_is : (id : ℕ) (cs : List Candidate) (o : Option ℕ) → Found id cs o → is_some o ≡ has id cs
 found_is id cs None h = sym h

@@ -4,7 +4,7 @@ use Rattle.tasks.specs.declared.fault.Fault.{Fault}
 use Rattle.law.specs.declared.command.Command.{Command}
 use Rattle.law.specs.declared.command.Outcome.{Outcome}
 use Rattle.law.specs.Meaning.{Meaning}
-use Rattle.law.specs.Obey.{Point, Reply, obey}
+use Rattle.law.specs.Obey.{Point, obey}
 use Rattle.plan.specs.declared.plan.Plan.{Plan}
 use Rattle.plan.specs.Model.{model}
 

@@ -1,5 +1,4 @@
 -- What a plan stands for.
-use Rattle.std.specs.Prelude.{ℕ, List}
 use Rattle.tasks.specs.Lists.{plains}
 use Rattle.tasks.specs.declared.admission.Admission as admission
 use Rattle.response.specs.declared.test.ResponseTest as test

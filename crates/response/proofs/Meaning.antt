@@ -1,14 +1,14 @@
 -- The definitions of the tests, shown to say what their laws in words say.
-use Rattle.std.proofs.Common.{◌≡◌, ℕ, zero, suc, ◌+◌, ◌-◌, ◌*◌, ◌/◌, ◌%◌, ◌<◌, ◌≤◌, min, max, true, false, eqb, leb, ◌⊎◌, List, length, Some, None, Option, sym, refl, ap, ◌∙◌, subst, inl, inr, mul-le-mul_right, add-mul, div-add-mod', arith}
+use Rattle.std.proofs.Common.{◌≡◌, ℕ, zero, suc, ◌+◌, ◌-◌, ◌*◌, ◌/◌, ◌%◌, ◌<◌, ◌≤◌, min, false, ◌⊎◌, List, length, Some, None, Option, sym, refl, ap, ◌∙◌, subst, inl, inr, mul-le-mul_right, add-mul, div-add-mod', arith}
 use Rattle.std.proofs.lemmas.Nat.{mod_below}
 use Rattle.std.proofs.lemmas.Bool.{cases_Bool, cases_lt, le-leb, lt-leb, leb-true, ne_eqb, both_ways}
-use Rattle.tasks.specs.Numbers.{largest, least, max_below, ceiling}
+use Rattle.tasks.specs.Numbers.{largest, max_below}
 use Rattle.tasks.specs.Sets.{holds}
 use Rattle.tasks.specs.declared.task.Timing.{Timing}
 use Rattle.tasks.specs.Timing.{at}
 use Rattle.tasks.proofs.Ranges.{Least, least_some, least_is, largest_is, largest_most}
 use Rattle.response.specs.Tests.{blocking, section_below, busy, closes, delay, window}
-use Rattle.response.specs.Laws.{LeastSolution, RoundsUp, Below, LongestSection, BusyWindow, LongestDelay, RoundingUpIsLeast, BlockingIsLongest, OneJobIsLeastSolution, WindowIsLongestDelay}
+use Rattle.response.specs.Laws.{LeastSolution, Below, BusyWindow, LongestDelay, RoundingUpIsLeast, BlockingIsLongest, OneJobIsLeastSolution, WindowIsLongestDelay}
 use Rattle.response.specs.Demand.{AllLegal, least_solution, solution_settles, unsolved_settles, settles_unsolved}
 use Rattle.response.specs.Blocking.{section_other, section_held, section_self}
 use Rattle.response.specs.Jobs.{jobs, ended, closes_at, delay_at, window_at, warmer}

@@ -6,7 +6,6 @@ use Rattle.tasks.specs.Sets.{holds, members}
 use Rattle.search.specs.declared.ranking.Ranking.{Ranking}
 use Rattle.search.specs.declared.search.Search.{Search}
 use Rattle.orders.specs.Orders.{word, count, unplaced, Order}
-use Rattle.orders.specs.Search.{below}
 use Rattle.search.specs.Ranks.{ranks, all_below}
 use Rattle.orders.proofs.Counts.{same_is, same_other, count_append, count_upto, count_unplaced, Front, Free, length_unplaced, front_push, order_from_front}
 use Rattle.orders.proofs.Words.{holds_present, same_bits}

@@ -2,7 +2,7 @@
 use Rattle.std.proofs.Common.{◌≡◌, ℕ, suc, ◌+◌, ◌-◌, ◌<◌, true, false, cond, eqb, List, [], ◌∷◌, ◌++◌, map, reverse, length, Some, None, Option, sym, refl, ap, ◌∙◌, arith}
 use Rattle.std.proofs.lemmas.List.{length-reverse, length-map}
 use Rattle.std.proofs.lemmas.Bool.{eq-eqb, ne_eqb, cond-true, cond-false}
-use Rattle.orders.specs.Orders.{Test, Assignment, word}
+use Rattle.orders.specs.Orders.{Test, Assignment}
 use Rattle.orders.specs.Costs.{Cost, cost}
 use Rattle.orders.specs.Search.{Vertex, State, entering, bound, better, branched, placed, examined, examine, examine_active, steps, stepped, is_none}
 use Rattle.search.specs.declared.vertex.Vertex as declared

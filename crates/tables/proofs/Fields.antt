@@ -1,12 +1,11 @@
 -- Numbers packed behind one another, and how they are found again.
-use Rattle.std.proofs.Common.{◌≡◌, ℕ, zero, suc, ◌+◌, ◌-◌, ◌*◌, ◌/◌, ◌%◌, ◌^◌, ◌<◌, ◌≤◌, List, [], ◌∷◌, ◌++◌, length, get_or, drop, sym, refl, ap, ◌∙◌, mod-eq_of_lt, mul_assoc, mul_comm, add-mul, zero-add, zero-mul, arith}
+use Rattle.std.proofs.Common.{◌≡◌, ℕ, zero, suc, ◌+◌, ◌-◌, ◌*◌, ◌/◌, ◌%◌, ◌^◌, ◌<◌, List, [], ◌∷◌, length, get_or, drop, sym, refl, ap, ◌∙◌, mod-eq_of_lt, mul_assoc, mul_comm, add-mul, zero-add, zero-mul, arith}
 use Rattle.std.specs.Int.Digits.{number_from_digits, AllBelowBase}
 use Rattle.std.specs.List.{AllByRecursion as All}
-use Rattle.std.proofs.lemmas.Nat.{mod_low, shr_high, mul-add-lt, mod-pow-add, pow-add, pow_pos}
+use Rattle.std.proofs.lemmas.Nat.{mod_low, shr_high, mul-add-lt, mod-pow-add, pow-add}
 use Rattle.tables.specs.Bits.{field, packed, bytes_of}
 use Rattle.tables.specs.Tables.{candidate, header_in, record_fields, header_fields, record_bytes}
 use Rattle.tasks.specs.declared.task.Candidate.{Candidate}
-use Rattle.tables.specs.declared.header.Header.{Header}
 use Rattle.tables.proofs.Packing.{bytes_of_length, bytes_of_number, number_bytes_of, below_bytes}
 
 -- the bits of some fields, and that each value fits its width

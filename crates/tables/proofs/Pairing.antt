@@ -1,5 +1,5 @@
 -- Packed tables and lists of tasks pair off.
-use Rattle.std.proofs.Common.{◌≡◌, ℕ, zero, suc, ◌+◌, ◌-◌, ◌*◌, ◌^◌, ◌<◌, ◌≤◌, Bool, true, false, ◌&&◌, eqb, ltb, leb, List, [], ◌∷◌, ◌++◌, map, length, get_or, take, drop, IfOk, Some, None, Ok, Err, Option, Result, sym, refl, ap, ◌∙◌, subst, arith, w8, Fits}
+use Rattle.std.proofs.Common.{◌≡◌, ℕ, zero, suc, ◌+◌, ◌*◌, ◌<◌, ◌≤◌, Bool, true, false, ◌&&◌, eqb, ltb, leb, List, [], ◌∷◌, ◌++◌, map, length, get_or, take, drop, IfOk, Some, None, Ok, Err, Option, Result, sym, refl, ap, ◌∙◌, subst, arith, w8, Fits}
 use mathlib.Core.HLevel.{is_prop→PathP}
 use native.Mathlib.Bridge.{le_prop}
 use Rattle.std.specs.Int.Digits.{AllBelowBase}
@@ -29,7 +29,7 @@ use Rattle.tasks.specs.Tasks.{task_fault, ranged, tick, timing_of, plain}
 use Rattle.tables.proofs.Fields.{Fit, record_back, record_same, header_back, header_same}
 use Rattle.tables.proofs.Packing.{bytes_of_length}
 use Rattle.tables.proofs.Tables.{passed}
-use Rattle.tables.proofs.Encoding.{encoded_length, joined_length}
+use Rattle.tables.proofs.Encoding.{encoded_length}
 
 -- where there is no fault, each test held
 pub unless_none : {F : Type 0} (b : Bool) (f : F) (rest : Option F) → unless b f rest ≡ None → (b ≡ true) × (rest ≡ None)

@@ -1,5 +1,5 @@
 -- Worked examples of the packed table and of the rules of a task.
-use Rattle.std.specs.Prelude.{◌≡◌, ℕ, List, [], ◌∷◌, Some, None}
+use Rattle.std.specs.Prelude.{◌≡◌, ℕ, [], ◌∷◌, Some, None}
 use Rattle.tasks.specs.declared.fault.TaskFault.TheVariants.{Deadline, Section}
 use Rattle.tasks.specs.declared.task.Candidate.{Candidate}
 use Rattle.tables.specs.Bits.{bytes_of, packed}

@@ -1,4 +1,4 @@
-use Rattle.std.proofs.Common.{◌≡◌, ℕ, ◌≤◌, length, sym, refl, ap, subst₂, arith, rules, lt-ltb}
+use Rattle.std.proofs.Common.{ℕ, ◌≤◌, length, refl, subst₂, arith, rules, lt-ltb}
 use Rattle.text.specs.Texts.{refusal_line}
 use Rattle.text.proofs.Pens.{all_delivered}
 use Rattle.text.proofs.Texts.{length_refusal}

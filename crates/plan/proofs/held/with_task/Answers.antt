@@ -1,4 +1,4 @@
-use Rattle.std.proofs.Common.{◌≡◌, ◌-◌, map, sym, refl, ap, ◌∙◌, arith, length-take}
+use Rattle.std.proofs.Common.{◌-◌, map, ap, ◌∙◌, arith, length-take}
 use Rattle.tasks.specs.Tasks.{plain}
 use Rattle.law.specs.Held.{inserted}
 use Rattle.plan.proofs.Edits.{put_between}

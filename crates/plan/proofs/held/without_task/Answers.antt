@@ -1,4 +1,4 @@
-use Rattle.std.proofs.Common.{◌≡◌, map, sym, refl, ap, ◌∙◌}
+use Rattle.std.proofs.Common.{map, ap, ◌∙◌}
 use Rattle.std.specs.List.{remove}
 use Rattle.tasks.specs.Tasks.{plain}
 use Rattle.plan.proofs.Edits.{left_out}

@@ -1,6 +1,6 @@
-use Rattle.std.proofs.Common.{◌≡◌, ℕ, true, false, map, sym, ◌∙◌, arith}
+use Rattle.std.proofs.Common.{◌≡◌, map, sym, ◌∙◌, arith}
 use Rattle.tasks.specs.Tasks.{plain}
-use Rattle.plan.specs.Ids.{every_below, held_if_in}
+use Rattle.plan.specs.Ids.{held_if_in}
 use Rattle.plan.proofs.Words.{every_none, every_next, every_fails}
 use Rattle.plan.proofs.ids.are_held.Goals as goal
 

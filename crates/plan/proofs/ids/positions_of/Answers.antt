@@ -1,4 +1,4 @@
-use Rattle.std.proofs.Common.{◌≡◌, ℕ, ◌+◌, ◌*◌, ◌%◌, ◌^◌, ◌<◌, ◌≤◌, true, false, map, length, get_or, sym, ap, ◌∙◌, add-one, arith}
+use Rattle.std.proofs.Common.{◌≡◌, ◌+◌, ◌*◌, ◌%◌, ◌^◌, ◌≤◌, map, length, get_or, sym, ap, ◌∙◌, add-one, arith}
 use native.Mathlib.Nat.{pow-le-pow_right}
 use native.Mathlib.Omega.{pow_step}
 use Rattle.std.proofs.lemmas.Nat.{one_shl}

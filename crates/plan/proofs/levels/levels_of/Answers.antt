@@ -1,9 +1,8 @@
-use Rattle.std.proofs.Common.{◌≡◌, ℕ, ◌<◌, map, length, get_or, take, sym, ap, ◌∙◌, arith, length-set, length-take, rules}
+use Rattle.std.proofs.Common.{◌≡◌, ◌<◌, map, length, get_or, sym, ap, ◌∙◌, arith, length-set, length-take, rules}
 use Rattle.std.proofs.lemmas.List.{get_or-take, take_all}
 use Rattle.tasks.specs.Sets.{members}
 use Rattle.tasks.specs.Tasks.{plain}
 use Rattle.search.specs.Ranks.{ranks}
-use Rattle.text.specs.Levels.{numbers}
 use Rattle.plan.proofs.Shown.{seen, level_more, levels_seen}
 use Rattle.plan.proofs.levels.levels_of.Goals as goal
 

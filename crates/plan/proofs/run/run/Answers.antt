@@ -1,4 +1,4 @@
-use Rattle.std.proofs.Common.{◌≡◌, vec_items, sym, refl, ap, ◌∙◌, arith}
+use Rattle.std.proofs.Common.{vec_items, ◌∙◌, arith}
 use Rattle.law.specs.Meaning.{Lawful}
 use Rattle.plan.specs.Calls.{at}
 use Rattle.plan.specs.Model.{means}

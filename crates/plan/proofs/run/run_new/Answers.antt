@@ -1,4 +1,4 @@
-use Rattle.std.proofs.Common.{◌≡◌, vec_items, ap}
+use Rattle.std.proofs.Common.{vec_items, ap}
 use Rattle.law.specs.Meaning.{Lawful, meaning}
 use Rattle.plan.specs.Calls.{at}
 use Rattle.plan.specs.Model.{means}

@@ -1,4 +1,4 @@
-use Rattle.std.proofs.Common.{◌≡◌, ◌+◌, length, sym, subst, arith}
+use Rattle.std.proofs.Common.{◌+◌, length, sym, subst, arith}
 use Rattle.tasks.specs.Lists.{items, plains}
 use Rattle.tasks.specs.Timing.{timings}
 use Rattle.orders.proofs.Firsts.{first_order_is_exact}

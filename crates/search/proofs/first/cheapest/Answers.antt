@@ -1,4 +1,4 @@
-use Rattle.std.proofs.Common.{◌≡◌, ◌-◌, length, sym, ap, ◌∙◌, ap₂, arith, rules}
+use Rattle.std.proofs.Common.{◌-◌, length, sym, ap, ◌∙◌, ap₂, arith, rules}
 use Rattle.tasks.specs.Lists.{items, plains}
 use Rattle.tasks.specs.Timing.{timings}
 use Rattle.orders.specs.First.{cheaper, cheapest}

@@ -1,4 +1,4 @@
-use Rattle.std.proofs.Common.{◌≡◌, ℕ, ◌%◌, ◌<◌, sym, ap, ◌∙◌}
+use Rattle.std.proofs.Common.{◌%◌, ◌<◌, sym, ap, ◌∙◌}
 use Rattle.std.proofs.ByRecursion.{All-from_get_or}
 use Rattle.tables.proofs.Packing.{field_bit}
 use Rattle.tables.proofs.bits.bit.Goals as goal

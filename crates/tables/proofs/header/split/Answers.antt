@@ -1,4 +1,4 @@
-use Rattle.std.proofs.Common.{◌≡◌, ◌≤◌, length, arith, rules}
+use Rattle.std.proofs.Common.{◌≡◌, ◌≤◌, length, rules}
 use Rattle.std.proofs.lemmas.List.{take_rest}
 use Rattle.tables.specs.Tables.{header}
 use Rattle.tables.proofs.Packing.{two_bytes}

@@ -1,4 +1,4 @@
-use Rattle.std.proofs.Common.{◌≡◌, length, arith}
+use Rattle.std.proofs.Common.{◌≡◌, arith}
 use Rattle.tables.proofs.record.read_fields.Goals as goal
 
 -- each field begins where the one before it ended

@@ -1,4 +1,4 @@
-use Rattle.std.proofs.Common.{◌≡◌, ℕ, ◌+◌, ◌*◌, List, [], ◌∷◌, take, drop, sym, refl, ap, ◌∙◌, div-one, arith, length-take}
+use Rattle.std.proofs.Common.{◌≡◌, ℕ, ◌+◌, ◌*◌, List, [], ◌∷◌, take, drop, ap, ◌∙◌, div-one, arith, length-take}
 use Rattle.tables.specs.Bits.{bytes_of, packed}
 use Rattle.text.specs.Levels.{numbers}
 use Rattle.text.proofs.Reports.{length_level}

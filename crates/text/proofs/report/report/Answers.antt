@@ -1,4 +1,4 @@
-use Rattle.std.proofs.Common.{◌≡◌, ◌*◌, map, length, take, refl, arith, rules, lt-ltb}
+use Rattle.std.proofs.Common.{◌≡◌, map, length, take, refl, arith, rules, lt-ltb}
 use Rattle.std.proofs.lemmas.List.{length-map, length-take-le, take_all}
 use Rattle.text.specs.Levels.{numbers}
 use Rattle.text.specs.Reports.{report_bytes}

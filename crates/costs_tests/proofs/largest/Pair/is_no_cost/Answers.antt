@@ -1,7 +1,6 @@
 -- (1, 100) comes before (2, 0), but joined with (5, 1) it comes after.
-use Rattle.std.proofs.Common.{◌≡◌, ℕ, Bool, true, false, sym, refl, ap, ◌∙◌, subst, ap₂}
+use Rattle.std.proofs.Common.{◌≡◌, ℕ, Bool, sym, ap, ◌∙◌, ap₂}
 use Rattle.std.proofs.lemmas.Bool.{false≢true}
-use Rattle.costs.specs.Prices.{Prices, Lawful}
 use Rattle.costs_tests.specs.declared.largest.Pair.{Pair}
 use Rattle.costs_tests.specs.Largest.{paired, precedes, Unlawful}
 use Rattle.costs_tests.proofs.largest.Pair.is_no_cost.Goals as goal

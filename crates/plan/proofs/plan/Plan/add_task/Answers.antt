@@ -1,4 +1,4 @@
-use Rattle.std.proofs.Common.{◌≡◌, ℕ, List, map, sym, refl, ap, ◌∙◌}
+use Rattle.std.proofs.Common.{◌≡◌, map, sym, refl, ap, ◌∙◌}
 use Rattle.tasks.specs.declared.fault.Fault.TheVariants.{Plan}
 use Rattle.tasks.specs.declared.fault.PlanFault.TheVariants.{Full}
 use Rattle.tasks.specs.Lists.{plains}

@@ -1,4 +1,4 @@
-use Rattle.std.proofs.Common.{◌≡◌, ◌<◌, length, sym, refl, ap, arith, eq-eqb}
+use Rattle.std.proofs.Common.{◌<◌, length, sym, refl, ap, arith, eq-eqb}
 use Rattle.tasks.specs.Lists.{items, plains}
 use Rattle.costs.proofs.Folds.{count_plain}
 use Rattle.search.proofs.Reaches.{was_started}

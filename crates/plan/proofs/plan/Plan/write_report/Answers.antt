@@ -1,4 +1,4 @@
-use Rattle.std.proofs.Common.{◌≡◌, ◌-◌, map, length, take, sym, ap, ◌∙◌, arith, length-take}
+use Rattle.std.proofs.Common.{◌≡◌, ◌-◌, map, length, take, ap, arith, length-take}
 use Rattle.tasks.specs.Lists.{plains}
 use Rattle.tasks.specs.Tasks.{plain}
 use Rattle.search.specs.Ranks.{ranks, ranked}

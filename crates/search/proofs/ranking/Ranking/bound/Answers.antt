@@ -1,11 +1,10 @@
-use Rattle.std.proofs.Common.{◌≡◌, ◌≤◌, true, false, length, is_some, Some, sym, ap, ◌∙◌, arith, rules, below_more}
+use Rattle.std.proofs.Common.{◌≡◌, true, false, length, is_some, Some, sym, ap, ◌∙◌, arith, below_more}
 use Rattle.std.proofs.lemmas.Bool.{false≢true}
 use Rattle.tasks.specs.Lists.{items, plains}
 use Rattle.tasks.specs.Sets.{holds}
 use Rattle.tasks.specs.Timing.{timings}
 use Rattle.costs.specs.Folds.{charge, join_below}
 use Rattle.costs.proofs.Folds.{join_none, join_next, charge_at, count_plain}
-use Rattle.orders.proofs.Counts.{Front}
 use Rattle.search.specs.Ranks.{ranks}
 use Rattle.search.proofs.Bridges.{asked}
 use Rattle.search.proofs.Joins.{of_either, either_placed, either_free, bound_is, bound_late}

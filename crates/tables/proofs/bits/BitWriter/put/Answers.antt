@@ -1,4 +1,4 @@
-use Rattle.std.proofs.Common.{◌+◌, ◌*◌, ◌^◌, ◌<◌, refl, ap, ◌∙◌, arith}
+use Rattle.std.proofs.Common.{◌^◌, ◌<◌, refl, arith}
 use Rattle.tables.proofs.Packing.{put_value, put_small}
 use Rattle.tables.proofs.bits.BitWriter.put.Goals as goal
 
