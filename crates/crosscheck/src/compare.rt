@@ -5,7 +5,7 @@ use crate::pair::Pair;
 use crate::reply::differ;
 use costs::cost::Cost;
 use response::test::ResponseTest;
-use second::orders::{Price, Problem, try_all};
+use second::every_order::{Price, Problem, try_all};
 use second::random::Random;
 use second::reply::Reply;
 use second::table::Row;

@@ -4,7 +4,7 @@ use crate::pair::Pair;
 use crate::reply::differ;
 use costs::cost::Cost;
 use response::test::ResponseTest;
-use second::orders::Problem;
+use second::every_order::Problem;
 use second::random::Random;
 use second::ticks::{Machine, Workload};
 use second::times::bit;

@@ -1,6 +1,6 @@
 -- Adds and drops leave tasks that a plan can hold.
 use Rattle.std.proofs.Common.{◌≡◌, ℕ, suc, ◌+◌, ◌<◌, ◌≤◌, Bool, true, false, eqb, ltb, List, [], ◌∷◌, length, None, refl, ap, arith}
-use Rattle.std.specs.List.{AllByRecursion as All}
+use Rattle.std.specs.List.{AllByRecursion}
 use Rattle.std.proofs.lemmas.Bool.{ltb-true, ltb-false, eqb-false, or_parts, cond_both}
 use Rattle.tasks.specs.declared.task.Candidate.{Candidate}
 use Rattle.tasks.specs.declared.task.Timing.{Timing}
@@ -17,10 +17,10 @@ module _ (c : Candidate) where
   length_inserted (t ∷ ts) =
       cond_both (ltb c.id t.id) _ _ (λ l. length l ≡ suc (suc (length ts))) (λ _. refl) (λ _. ap suc (length_inserted ts))
 
-  all_inserted : (P : Candidate → Type 0) (ts : List Candidate) → P c → All P ts → All P (inserted c ts)
+  all_inserted : (P : Candidate → Type 0) (ts : List Candidate) → P c → AllByRecursion P ts → AllByRecursion P (inserted c ts)
   all_inserted P [] h hs = (h, tt)
   all_inserted P (t ∷ ts) h hs =
-      cond_both (ltb c.id t.id) _ _ (All P) (λ _. (h, hs)) (λ _. (hs.0, all_inserted P ts h hs.1))
+      cond_both (ltb c.id t.id) _ _ (AllByRecursion P) (λ _. (h, hs)) (λ _. (hs.0, all_inserted P ts h hs.1))
 
   ascend_inserted : (floor : ℕ) (ts : List Candidate) → floor ≤ c.id → has c.id ts ≡ false → AscendFrom floor ts
       → AscendFrom floor (inserted c ts)
@@ -43,9 +43,9 @@ module _ (id : ℕ) where
   length_without (t ∷ ts) =
       cond_both (eqb t.id id) _ _ (λ l. length l ≤ suc (length ts)) (λ _. omega arith) (λ _. omega (arith, length_without ts))
 
-  all_without : (P : Candidate → Type 0) (ts : List Candidate) → All P ts → All P (without id ts)
+  all_without : (P : Candidate → Type 0) (ts : List Candidate) → AllByRecursion P ts → AllByRecursion P (without id ts)
   all_without P [] hs = tt
-  all_without P (t ∷ ts) hs = cond_both (eqb t.id id) _ _ (All P) (λ _. hs.1) (λ _. (hs.0, all_without P ts hs.1))
+  all_without P (t ∷ ts) hs = cond_both (eqb t.id id) _ _ (AllByRecursion P) (λ _. hs.1) (λ _. (hs.0, all_without P ts hs.1))
 
   ascend_lower : (low high : ℕ) (ts : List Candidate) → low ≤ high → AscendFrom high ts → AscendFrom low ts
   ascend_lower low high [] h hs = tt

@@ -1,6 +1,6 @@
 -- What the laws say of the held tasks.
 use Rattle.std.proofs.Common.{◌≡◌, ℕ, ◌<◌, Bool, true, List, [], ◌∷◌, length, get_or, arith}
-use Rattle.std.specs.List.{AllByRecursion as All}
+use Rattle.std.specs.List.{AllByRecursion}
 use Rattle.std.proofs.ByRecursion.{All-map, All-get_or}
 use Rattle.std.proofs.lemmas.List.{length-map}
 use Rattle.tasks.specs.declared.task.Candidate.{Candidate}
@@ -24,8 +24,8 @@ module _ (admitted : Timing → Bool) where
     admits : admitted t ≡ true
     short : t.deadline < 1048576
 
-  possible : (tasks : List Candidate) → All pairing.Sound tasks → All (λ c. admitted (timing_of c) ≡ true) tasks
-      → All (λ c. Possible (timing_of c)) tasks
+  possible : (tasks : List Candidate) → AllByRecursion pairing.Sound tasks → AllByRecursion (λ c. admitted (timing_of c) ≡ true) tasks
+      → AllByRecursion (λ c. Possible (timing_of c)) tasks
   possible [] s a = tt
   possible (c ∷ cs) s a = (
     record {

@@ -1,6 +1,6 @@
 -- Lists of commands, and what follows from their answers.
 use Rattle.std.specs.Prelude.{◌≡◌, ℕ, ◌+◌, Bool, true, false, cond, ◌&&◌, List, [], ◌∷◌, map, is_ok, Result}
-use Rattle.std.specs.List.{AllByRecursion as All}
+use Rattle.std.specs.List.{AllByRecursion}
 use Rattle.tasks.specs.declared.fault.Fault.{Fault}
 use Rattle.tasks.specs.declared.task.Candidate.{Candidate}
 use Rattle.tables.specs.Tables.{candidate, records_of}
@@ -64,7 +64,7 @@ ends Report = false
 
 -- none of these was accepted
 abbrev pub Lasting : List Event → Type 0
-Lasting es = All (λ e. (accepted e && ends e.command) ≡ false) es
+Lasting es = AllByRecursion (λ e. (accepted e && ends e.command) ≡ false) es
 
 -- by how much a command advances
 abbrev pub by : Command → ℕ

@@ -1,6 +1,6 @@
 -- Why the rules ask what they ask: where one premise is dropped and all others hold, a job may outrun its response time.
 use Rattle.std.specs.Prelude.{◌≡◌, ℕ, suc, ◌+◌, ◌-◌, ◌^◌, ◌<◌, List, [], ◌∷◌, length, Some}
-use Rattle.std.specs.List.{AllByRecursion as All}
+use Rattle.std.specs.List.{AllByRecursion}
 use Rattle.tasks.specs.declared.task.Timing.{Timing}
 use Rattle.tasks.specs.Timing.{at, Legal}
 use Rattle.response.specs.Tests.{Answers, one_job, window}
@@ -77,4 +77,4 @@ need_past_execution = record {
 }
 
 abbrev pub PremisesNeeded : Type 0
-PremisesNeeded = All Outruns (deadline_past_period ∷ section_below_window ∷ releases_too_close ∷ need_past_execution ∷ [])
+PremisesNeeded = AllByRecursion Outruns (deadline_past_period ∷ section_below_window ∷ releases_too_close ∷ need_past_execution ∷ [])

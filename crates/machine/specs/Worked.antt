@@ -1,6 +1,6 @@
 -- Worked runs of the tick machine, in orders that pass.
 use Rattle.std.specs.Prelude.{◌≡◌, ℕ, zero, suc, ◌+◌, Bool, List, [], ◌∷◌, length}
-use Rattle.std.specs.List.{AllByRecursion as All}
+use Rattle.std.specs.List.{AllByRecursion}
 use Rattle.tasks.specs.declared.task.Timing.{Timing}
 use Rattle.tasks.specs.Timing.{Held}
 use Rattle.response.specs.Tests.{Answers, one_job, one_job_admits, window, window_admits}
@@ -103,4 +103,4 @@ long_window = record {
 }
 
 abbrev pub Worked : Type 0
-Worked = All Right (three_tasks ∷ section_holds ∷ first_job ∷ second_job ∷ third_job ∷ long_window ∷ [])
+Worked = AllByRecursion Right (three_tasks ∷ section_holds ∷ first_job ∷ second_job ∷ third_job ∷ long_window ∷ [])

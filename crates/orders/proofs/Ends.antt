@@ -1,6 +1,6 @@
 -- The search ends: a vertex weighs as many vertices as can follow from it, and each step takes one off.
 use Rattle.std.proofs.Common.{◌≡◌, ℕ, zero, suc, ◌+◌, ◌-◌, ◌*◌, ◌≤◌, List, [], ◌∷◌, ◌++◌, map, length, sym, refl, ap, ◌∙◌, suc-mul, zero-mul, arith, length-append}
-use Rattle.std.specs.List.{AllByRecursion as All}
+use Rattle.std.specs.List.{AllByRecursion}
 use Rattle.std.proofs.ByRecursion.{All-append}
 use Rattle.orders.specs.Orders.{unplaced, Test, Assignment}
 use Rattle.orders.specs.Costs.{Cost}
@@ -43,7 +43,7 @@ module _ (n : ℕ) (v : Path) where
 
 -- the active vertices are parts of orders, and weigh at most k
 record Weighs (n k : ℕ) (s : Paths) : Type 0 where
-  fronts : All (Front n) s.active
+  fronts : AllByRecursion (Front n) s.active
   light : weight n s.active ≤ k
 
 module _ {V : Type 0} (n : ℕ) (answer : Test) (c : Cost V) where

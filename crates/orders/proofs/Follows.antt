@@ -1,6 +1,6 @@
 -- The search keeps the times of the ancestors of its vertices, and these are right: it follows the search over paths.
 use Rattle.std.proofs.Common.{◌≡◌, ℕ, zero, suc, Bool, true, false, cond, eqb, List, [], ◌∷◌, ◌++◌, map, length, Some, None, Option, sym, refl, ap, ◌∙◌, subst, append_assoc, append-nil, arith}
-use Rattle.std.specs.List.{AllByRecursion as All}
+use Rattle.std.specs.List.{AllByRecursion}
 use Rattle.std.proofs.ByRecursion.{All-append}
 use Rattle.std.proofs.lemmas.List.{map-append, length-map}
 use Rattle.orders.specs.Orders.{word, unplaced, Test, Assignment, times}
@@ -57,17 +57,17 @@ module _ (answer : Test) (i : ℕ) where
 Timely : Test → Vertex → Type 0
 Timely answer v = times answer v.ancestors.order ≡ Some v.ancestors.times
 
-timely_enter : (n : ℕ) (answer : Test) (a : Assignment) → times answer a.order ≡ Some a.times → All (Timely answer) (entering n a)
+timely_enter : (n : ℕ) (answer : Test) (a : Assignment) → times answer a.order ≡ Some a.times → AllByRecursion (Timely answer) (entering n a)
 unfolding Timely
 timely_enter n answer a e = all_over (Timely answer) (λ i. record { ancestors = a; task = i }) (unplaced n a.order) (λ i h. e)
 
 module _ {V : Type 0} (n : ℕ) (answer : Test) (c : Cost V) where
   -- a state and what it follows
   record Follows (s : State) (p : paths.Paths) : Type 0 where
-    timely : All (Timely answer) s.active
+    timely : AllByRecursion (Timely answer) s.active
     is : forget s ≡ p
 
-  module _ (best : Assignment) (rest : List Vertex) (right : All (Timely answer) rest) where
+  module _ (best : Assignment) (rest : List Vertex) (right : AllByRecursion (Timely answer) rest) where
     dropped : (b : Assignment) → Follows (record { best = b; active = rest }) (record { best = b; active = map path rest })
     unfolding forget
     dropped b = record { timely = right; is = refl }
@@ -110,7 +110,7 @@ module _ {V : Type 0} (n : ℕ) (answer : Test) (c : Cost V) where
         by_level (below v.ancestors v.task t) (times_more answer v.task v.ancestors.order v.ancestors.times h (Some t) q)
         (eqb (length (v.ancestors.order ++ (v.task ∷ []))) n)
 
-  one_step : (best : Assignment) (active : List Vertex) → All (Timely answer) active
+  one_step : (best : Assignment) (active : List Vertex) → AllByRecursion (Timely answer) active
       → Follows (examine_active n answer c best active) (paths.examine_active n answer c best (map path active))
   unfolding forget Timely path
   one_step best [] h = record { timely = tt; is = refl }
@@ -120,14 +120,14 @@ module _ {V : Type 0} (n : ℕ) (answer : Test) (c : Cost V) where
       subst (λ o. Follows (examined n answer c best rest v a) (paths.examined n answer c best (map path rest) (path v) o)) (sym same)
       (by_answer best rest h.1 v h.0 a refl)
 
-  all_steps : (k : ℕ) (s : State) → All (Timely answer) s.active → forget (steps n answer c k s) ≡ paths.steps n answer c k (forget s)
+  all_steps : (k : ℕ) (s : State) → AllByRecursion (Timely answer) s.active → forget (steps n answer c k s) ≡ paths.steps n answer c k (forget s)
   unfolding forget
   all_steps zero s h = refl
   all_steps (suc k) s h =
       let one = one_step s.best s.active h in
       all_steps k (examine n answer c s) one.timely ∙ ap (paths.steps n answer c k) one.is
 
-  steps_timely : (k : ℕ) (s : State) → All (Timely answer) s.active → All (Timely answer) (steps n answer c k s).active
+  steps_timely : (k : ℕ) (s : State) → AllByRecursion (Timely answer) s.active → AllByRecursion (Timely answer) (steps n answer c k s).active
   steps_timely zero s h = h
   steps_timely (suc k) s h = steps_timely k (examine n answer c s) (one_step s.best s.active h).timely
 
@@ -186,4 +186,4 @@ only_own_task_late V n answer c first k v rest e = record {
     up = v.ancestors.order
 
     kept : times answer v.ancestors.order ≡ Some v.ancestors.times
-    kept = (subst (All (Timely answer)) e (steps_timely n answer c k (begun n first) (timely_enter n answer nothing_placed refl))).0
+    kept = (subst (AllByRecursion (Timely answer)) e (steps_timely n answer c k (begun n first) (timely_enter n answer nothing_placed refl))).0

@@ -1,7 +1,7 @@
 -- The search is right: until the end, an order that passes costs at least as much as the best one or extends an active
 -- vertex.
 use Rattle.std.proofs.Common.{◌≡◌, ℕ, zero, suc, ◌<◌, Bool, ◌⊎◌, List, [], ◌∷◌, ◌++◌, map, length, Some, sym, refl, ap, ◌∙◌, subst, ap₂, inl, inr, append_assoc, append-nil, arith, length-append}
-use Rattle.std.specs.List.{AllByRecursion as All}
+use Rattle.std.specs.List.{AllByRecursion}
 use Rattle.std.proofs.lemmas.Bool.{cond_both, cases_eq}
 use Rattle.std.proofs.ByRecursion.{All-append}
 use Rattle.orders.specs.Orders.{count, unplaced, Order, Test, Monotone, Assignment, Passes, times}
@@ -60,7 +60,7 @@ module _ {V : Type 0} (n : ℕ) (answer : Test) (c : Cost V) where
 
   record Sound (s : Paths) : Type 0 where
     passes : Passes n answer s.best
-    fronts : All (Front n) s.active
+    fronts : AllByRecursion (Front n) s.active
     covers : (a : Assignment) → Passes n answer a → NoMore c (price s.best) (price a) ⊎ Under a.order s.active
 
 module _ {V : Type 0} (n : ℕ) (answer : Test) (c : Cost V) (mono : Monotone n answer) (laws : Laws c) where

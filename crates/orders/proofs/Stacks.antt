@@ -1,6 +1,6 @@
 -- The active vertices stand by level, and there is room for them.
 use Rattle.std.proofs.Common.{◌≡◌, ℕ, zero, suc, ◌+◌, ◌-◌, ◌*◌, ◌<◌, ◌≤◌, List, [], ◌∷◌, ◌++◌, map, length, refl, ap, subst, append-nil, suc-mul, mul-suc, mul-add, arith, length-append}
-use Rattle.std.specs.List.{AllByRecursion as All}
+use Rattle.std.specs.List.{AllByRecursion}
 use Rattle.std.proofs.ByRecursion.{All-append, All-weaker}
 use Rattle.orders.specs.Orders.{unplaced, Test, Assignment}
 use Rattle.orders.specs.Costs.{Cost}
@@ -17,7 +17,7 @@ room n (suc l) = room n l + (n - l)
 -- under a vertex of level l stand fewer than there is room for down to l, none of a deeper level
 abbrev Stacked : ℕ → List Path → Type 0
 Stacked n [] = Unit {0}
-Stacked n (v ∷ rest) = (length rest < room n (length v)) × All (λ w. length w ≤ length v) rest × Stacked n rest
+Stacked n (v ∷ rest) = (length rest < room n (length v)) × AllByRecursion (λ w. length w ≤ length v) rest × Stacked n rest
 
 -- ---- vertices enter on top of lower ones
 
@@ -25,12 +25,12 @@ length_map : (v : Path) (is : List ℕ) → length (map (λ i. v ++ (i ∷ [])) 
 length_map v [] = refl
 length_map v (i ∷ is) = ap suc (length_map v is)
 
-levels_enter : (l : ℕ) (v : Path) (is : List ℕ) → suc (length v) ≤ l → All (λ w. length w ≤ l) (map (λ i. v ++ (i ∷ [])) is)
+levels_enter : (l : ℕ) (v : Path) (is : List ℕ) → suc (length v) ≤ l → AllByRecursion (λ w. length w ≤ l) (map (λ i. v ++ (i ∷ [])) is)
 levels_enter l v [] h = tt
 levels_enter l v (i ∷ is) h = (omega (arith, length-append v (i ∷ [])), levels_enter l v is h)
 
 stacked_more : (n : ℕ) (v : Path) (is : List ℕ) (rest : List Path) → length is + length rest ≤ room n (suc (length v))
-    → All (λ w. length w ≤ length v) rest → Stacked n rest → Stacked n (map (λ i. v ++ (i ∷ [])) is ++ rest)
+    → AllByRecursion (λ w. length w ≤ length v) rest → Stacked n rest → Stacked n (map (λ i. v ++ (i ∷ [])) is ++ rest)
 stacked_more n v [] rest h lower s = s
 stacked_more n v (i ∷ is) rest h lower s =
     let level : length (v ++ (i ∷ [])) ≡ suc (length v) = omega (arith, length-append v (i ∷ [])) in (
@@ -44,7 +44,7 @@ stacked_more n v (i ∷ is) rest h lower s =
 -- ---- the invariant
 
 record Shaped (n : ℕ) (s : Paths) : Type 0 where
-  fronts : All (Front n) s.active
+  fronts : AllByRecursion (Front n) s.active
   stacked : Stacked n s.active
 
 module _ {V : Type 0} (n : ℕ) (answer : Test) (c : Cost V) where
@@ -95,7 +95,7 @@ room_left n (suc l) h =
     let one : n - l ≡ suc (n - suc l) = omega arith in
     omega (arith, room_left n l (omega arith), ap triangle one)
 
-few : (n : ℕ) (vs : List Path) → All (Front n) vs → Stacked n vs → 2 * length vs ≤ n * (n + 1)
+few : (n : ℕ) (vs : List Path) → AllByRecursion (Front n) vs → Stacked n vs → 2 * length vs ≤ n * (n + 1)
 few n [] f s = omega arith
 few n (v ∷ rest) f s =
     omega (arith, s.0, room_left n (length v) (omega (arith, length_unplaced n v f.0)), twice_triangle n)

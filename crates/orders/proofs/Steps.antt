@@ -1,6 +1,6 @@
 -- The ways in which a vertex is examined.
 use Rattle.std.proofs.Common.{◌≡◌, ℕ, ◌<◌, Bool, true, false, cond, eqb, List, [], ◌∷◌, ◌++◌, map, length, Some, None, Option, refl, arith}
-use Rattle.std.specs.List.{AllByRecursion as All}
+use Rattle.std.specs.List.{AllByRecursion}
 use Rattle.std.proofs.lemmas.Bool.{eqb-true, eqb-false}
 use Rattle.orders.specs.Orders.{count, unplaced, Test, Assignment, times}
 use Rattle.orders.specs.Costs.{Cost, cost}
@@ -46,9 +46,9 @@ module _ {V : Type 0} (n : ℕ) (answer : Test) (c : Cost V) (best : Assignment)
 
 -- ---- the vertices that enter
 
-pub all_over : {X : Type 0} (P : X → Type 0) (f : ℕ → X) (is : List ℕ) → ((i : ℕ) → 0 < count i is → P (f i)) → All P (map f is)
+pub all_over : {X : Type 0} (P : X → Type 0) (f : ℕ → X) (is : List ℕ) → ((i : ℕ) → 0 < count i is → P (f i)) → AllByRecursion P (map f is)
 all_over P f [] h = tt
 all_over P f (i ∷ is) h = (h i (omega (arith, same_self i)), all_over P f is (λ j l. h j (omega arith)))
 
-pub fronts_enter : (n : ℕ) (v : Path) → Front n v → All (Front n) (entering n v)
+pub fronts_enter : (n : ℕ) (v : Path) → Front n v → AllByRecursion (Front n) (entering n v)
 fronts_enter n v f = all_over (Front n) (λ i. v ++ (i ∷ [])) (unplaced n v) (λ i h. front_push n v f i (unplaced_free n i v h))

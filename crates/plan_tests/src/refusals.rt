@@ -3,6 +3,7 @@ use crate::sample::*;
 use costs::sum::Sum;
 use plan::plan::Plan;
 use response::one_job::OneJob;
+use std::test::Fail;
 use tasks::fault::Fault;
 use tasks::task::Candidate;
 

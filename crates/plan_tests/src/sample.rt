@@ -67,7 +67,9 @@ fn the_sample_through_all_commands(rt: HostRuntime) -> Result<(), Fail> {
     assert!(rt; &out == b"\x04\x00\x00\x01\x08\x00\x00\x03\x0c\x00\x00\x0a\x07\x07");
     let mut text = [0u8; 512];
     let count = plan.listing(&mut text)?;
-    assert!(rt; count <= 512 && &text[0..count] == b"1 1 1\n2 2 3\n3 3 10\ncost 104 0\n");
+    assert!(rt;
+        count <= 512 && &text[0..count] == b"1 1 1\n2 2 3\n3 3 10\ncost 104 0\n".as_slice()
+    );
     plan.stop()?;
     assert_eq!(rt; refusal(plan.stop()), 13);
     Ok(())
@@ -82,7 +84,7 @@ fn asking_and_writing(rt: HostRuntime) -> Result<(), Fail> {
     assert!(rt; plan.ask(2, 0b1010)?.is_none());
     let mut out = [7u8; 40];
     assert_eq!(rt; plan.write(&mut out)?, 38);
-    assert!(rt; &out[0..38] == &SAMPLE && out[38] == 7 && out[39] == 7);
+    assert!(rt; &out[0..38] == SAMPLE.as_slice() && out[38] == 7 && out[39] == 7);
     plan.load(&EMPTY)?;
     assert!(rt; plan.vertex_bound() == 0);
     assert_eq!(rt; plan.write(&mut out)?, 2);

@@ -4,6 +4,7 @@ use costs::sum::Sum;
 use plan::plan::Plan;
 use response::one_job::OneJob;
 use std::process::Abort;
+use std::test::Fail;
 
 // Advances by four until nothing is left, and reports.
 fn search_and_report(rt: &impl Abort, plan: &mut Plan<OneJob, Sum>) -> Result<(), Fail> {

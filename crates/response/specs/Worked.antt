@@ -1,6 +1,6 @@
 -- Worked cases of the two tests.
 use Rattle.std.specs.Prelude.{◌≡◌, ℕ, List, [], ◌∷◌, Some, None, Option}
-use Rattle.std.specs.List.{AllByRecursion as All}
+use Rattle.std.specs.List.{AllByRecursion}
 use Rattle.tasks.specs.declared.task.Timing.{Timing}
 use Rattle.response.specs.Tests.{Answers, one_job, window}
 
@@ -41,4 +41,4 @@ cases =
     ∷ []
 
 abbrev pub Worked : Type 0
-Worked = All Right cases
+Worked = AllByRecursion Right cases

@@ -1,7 +1,7 @@
 -- The worked cases: the answers of the two tests, and the first order and the search under the one-job test and the sum.
 use Rattle.std.specs.Prelude.{◌≡◌, ℕ, List, [], ◌∷◌, map, length, Some, None, Option, slice_index_or}
 use Rattle.std.specs.Option.{option_map}
-use Rattle.std.specs.List.{AllByRecursion as All}
+use Rattle.std.specs.List.{AllByRecursion}
 use Rattle.tasks.specs.declared.task.Candidate.{Candidate}
 use Rattle.tasks.specs.Timing.{timings}
 use Rattle.response.specs.Tests.{one_job}
@@ -105,5 +105,5 @@ order_cases =
 
 pub record Worked : Type 0 where
   pub answers : response.Worked
-  pub searches : All (λ c. outcome c.held ≡ c.outcome) cases
-  pub orders : All (λ c. cost_of c.held c.order ≡ c.cost) order_cases
+  pub searches : AllByRecursion (λ c. outcome c.held ≡ c.outcome) cases
+  pub orders : AllByRecursion (λ c. cost_of c.held c.order ≡ c.cost) order_cases

@@ -3,7 +3,7 @@
 #![tactic(auto)]
 
 pub mod draw;
-pub mod orders;
+pub mod every_order;
 pub mod random;
 pub mod reply;
 pub mod shadow;

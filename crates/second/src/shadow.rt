@@ -1,5 +1,5 @@
 // The second planner as a plan: its tasks, how far its walk is, and what it answers to each command.
-use crate::orders::Problem;
+use crate::every_order::Problem;
 use crate::reply::{Reply, turned_down};
 use crate::table::{Kind, NO_ROW, Row, Rows, read};
 use crate::times::{Times, bit, has, time};

@@ -1,5 +1,5 @@
 // A tick machine: plays an order tick by tick, and looks whether a job takes longer than its task's time.
-use crate::orders::Problem;
+use crate::every_order::Problem;
 use crate::random::Random;
 use crate::table::{NO_ROW, Row};
 use std::alloc::{AllocError, Global};

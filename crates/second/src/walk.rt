@@ -1,6 +1,6 @@
 // The second planner's branch and bound. It keeps one path and no stack: the vertices are met in the order of their paths, so the next one is
 // below the path, or beside it, or beside one of its ancestors.
-use crate::orders::{Path, Price, Problem};
+use crate::every_order::{Path, Price, Problem};
 use crate::times::{bit, every, has};
 
 // The best order, its price, and how many vertices were met.

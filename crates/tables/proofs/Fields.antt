@@ -1,7 +1,7 @@
 -- Numbers packed behind one another, and how they are found again.
 use Rattle.std.proofs.Common.{◌≡◌, ℕ, zero, suc, ◌+◌, ◌-◌, ◌*◌, ◌/◌, ◌%◌, ◌^◌, ◌<◌, List, [], ◌∷◌, length, get_or, drop, sym, refl, ap, ◌∙◌, mod-eq_of_lt, mul_assoc, mul_comm, add-mul, zero-add, zero-mul, arith}
 use Rattle.std.specs.Int.Digits.{number_from_digits, AllBelowBase}
-use Rattle.std.specs.List.{AllByRecursion as All}
+use Rattle.std.specs.List.{AllByRecursion}
 use Rattle.std.proofs.lemmas.Nat.{mod_low, shr_high, mul-add-lt, mod-pow-add, pow-add}
 use Rattle.tables.specs.Bits.{field, packed, bytes_of}
 use Rattle.tables.specs.Tables.{candidate, header_in, record_fields, header_fields, record_bytes}
@@ -14,7 +14,7 @@ total [] = 0
 total (f ∷ fs) = f.0 + total fs
 
 abbrev pub Fit : List (ℕ × ℕ) → Type 0
-Fit fs = All (λ f. f.1 < 2 ^ f.0) fs
+Fit fs = AllByRecursion (λ f. f.1 < 2 ^ f.0) fs
 
 regroup : (n w v t s : ℕ) → (n * w + v) * t + s ≡ n * (w * t) + (v * t + s)
 regroup n w v t s = simp (add-mul, mul_assoc) (omega arith)

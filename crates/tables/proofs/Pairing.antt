@@ -3,7 +3,7 @@ use Rattle.std.proofs.Common.{◌≡◌, ℕ, zero, suc, ◌+◌, ◌*◌, ◌<�
 use mathlib.Core.HLevel.{is_prop→PathP}
 use native.Mathlib.Bridge.{le_prop}
 use Rattle.std.specs.Int.Digits.{AllBelowBase}
-use Rattle.std.specs.List.{flat_map, AllByRecursion as All}
+use Rattle.std.specs.List.{flat_map, AllByRecursion}
 use Rattle.std.proofs.ByRecursion.{All-take, All-drop, All-from_get_or}
 use Rattle.std.proofs.lemmas.List.{take_at, drop_at, length-map, length-drop, nil_from_length, length-take-le, take-append-drop}
 use Rattle.std.proofs.lemmas.Bool.{le-leb, lt-ltb, eq-eqb, leb-true, ltb-true, eqb-true, and_parts, and_from}
@@ -93,7 +93,7 @@ sound_fits c s =
 task_sound : (t : Task) → Sound (plain t)
 task_sound t = (grind (arith, nat_tests), t.in_deadline, t.in_period, t.preempted)
 
-tasks_sound : (ts : List Task) → All Sound (map plain ts)
+tasks_sound : (ts : List Task) → AllByRecursion Sound (map plain ts)
 tasks_sound [] = tt
 tasks_sound (t ∷ ts) = (task_sound t, tasks_sound ts)
 
@@ -129,7 +129,7 @@ length_chunks : (count : ℕ) (bytes : List ℕ) → length (chunks count bytes)
 length_chunks zero bytes = refl
 length_chunks (suc count) bytes = ap suc (length_chunks count (drop 12 bytes))
 
-map_back : (cs : List Candidate) → All Sound cs → map candidate (map record_bytes cs) ≡ cs
+map_back : (cs : List Candidate) → AllByRecursion Sound cs → map candidate (map record_bytes cs) ≡ cs
 map_back [] s = refl
 map_back (c ∷ cs) s = rw ((record_back c (sound_fits c s.0)).0, map_back cs s.1)
 
@@ -159,7 +159,7 @@ module _ (admitted : Timing → Bool) where
       let order = unless_none (leb floor (candidate bytes).id) (fault.Plan (Order n)) _ one.1 in
       (one.0, leb-true _ _ order.0, order.1)
 
-  held_passes : (cs : List Candidate) (n floor : ℕ) → All Sound cs → All (λ c. admitted (timing_of c) ≡ true) cs → AscendFrom floor cs
+  held_passes : (cs : List Candidate) (n floor : ℕ) → AllByRecursion Sound cs → AllByRecursion (λ c. admitted (timing_of c) ≡ true) cs → AscendFrom floor cs
       → records_fault admitted n floor (map record_bytes cs) ≡ None
   held_passes [] n floor s a l = refl
   held_passes (c ∷ cs) n floor s a l =
@@ -169,7 +169,7 @@ module _ (admitted : Timing → Bool) where
       ∙ rw id (held_passes cs (n + 1) (c.id + 1) s.1 a.1 l.1)
 
   passes_held : (records : List (List ℕ)) (n floor : ℕ) → records_fault admitted n floor records ≡ None
-      → All Sound (map candidate records) × All (λ c. admitted (timing_of c) ≡ true) (map candidate records) × AscendFrom floor (map candidate records)
+      → AllByRecursion Sound (map candidate records) × AllByRecursion (λ c. admitted (timing_of c) ≡ true) (map candidate records) × AscendFrom floor (map candidate records)
   passes_held [] n floor h = (tt, tt, tt)
   passes_held (r ∷ rs) n floor h =
       let parts = records_parts n floor r rs h in
@@ -267,7 +267,7 @@ module _ (admitted : Timing → Bool) where
     table_made (Err e) file typed h = tt
 
     -- the tasks of a list are sound, so that they can be held where they are admitted, ascend and are few
-    pub tasks_back : (ts : List Task) → length ts ≤ 16 → All (λ c. admitted (timing_of c) ≡ true) (map plain ts) → AscendFrom 0 (map plain ts)
+    pub tasks_back : (ts : List Task) → length ts ≤ 16 → AllByRecursion (λ c. admitted (timing_of c) ≡ true) (map plain ts) → AscendFrom 0 (map plain ts)
         → decoded admitted test cost (encoded test cost (map plain ts)) ≡ Ok (map plain ts)
     tasks_back ts few admits ascend =
         list (map plain ts) (record { sound = tasks_sound ts; admits = admits; ascend = ascend; few = rw (length-map ts plain) few })

@@ -1,7 +1,7 @@
 -- Packed tables and lists of tasks pair off, one to one.
 use Rattle.std.specs.Prelude.{◌≡◌, ℕ, ◌+◌, ◌<◌, ◌≤◌, Bool, true, List, [], ◌∷◌, length, Ok}
 use Rattle.std.specs.Int.Digits.{AllBelowBase}
-use Rattle.std.specs.List.{AllByRecursion as All}
+use Rattle.std.specs.List.{AllByRecursion}
 use Rattle.tasks.specs.declared.task.Candidate.{Candidate}
 use Rattle.tasks.specs.declared.task.Task.{Task}
 use Rattle.tasks.specs.declared.task.Timing.{Timing}
@@ -19,15 +19,15 @@ AscendFrom floor (c ∷ cs) = (floor ≤ c.id) × AscendFrom (c.id + 1) cs
 
 -- the tasks that a plan can hold: sound and admitted, with ascending ids, and at most sixteen
 pub record Held (admitted : Timing → Bool) (cs : List Candidate) : Type 0 where
-  pub sound : All Sound cs
-  pub admits : All (λ c. admitted (timing_of c) ≡ true) cs
+  pub sound : AllByRecursion Sound cs
+  pub admits : AllByRecursion (λ c. admitted (timing_of c) ≡ true) cs
   pub ascend : AscendFrom 0 cs
   pub few : length cs ≤ 16
 
 -- the table of these tasks decodes to them, under each test that admits them
 abbrev pub Back : ℕ → ℕ → List Candidate → Type 0
 Back test cost cs =
-    (admitted : Timing → Bool) → All (λ c. admitted (timing_of c) ≡ true) cs → AscendFrom 0 cs
+    (admitted : Timing → Bool) → AllByRecursion (λ c. admitted (timing_of c) ≡ true) cs → AscendFrom 0 cs
     → decoded admitted test cost (encoded test cost cs) ≡ Ok cs
 
 -- a table that decodes gives tasks that can be held and whose encoding it is, and tasks that can be held encode into a

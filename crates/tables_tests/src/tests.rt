@@ -1,5 +1,6 @@
 // The sample table both ways, every refusal of a table by one, and tables cut short.
 use crate::sample::*;
+use std::test::Fail;
 use tables::table::{decode, encode, record};
 use tasks::fault::Fault;
 use tasks::task::Candidate;
@@ -26,10 +27,10 @@ fn the_sample_there_and_back(rt: HostRuntime) -> Result<(), Fail> {
     let mut out = [7u8; 40];
     let tasks = sample_tasks(&rt)?;
     assert_eq!(rt; encode(CODES, &tasks, &mut out)?, 38);
-    assert!(rt; &out[0..38] == &SAMPLE);
+    assert!(rt; &out[0..38] == SAMPLE.as_slice());
     assert!(rt; out[38] == 7 && out[39] == 7);
-    assert!(rt; &out[0..2] == b"\x10\x03");
-    assert!(rt; &out[2..14] == b"\x04\x00\x01\x00\x00\x00\x01\x00\x00\x40\x00\x04");
+    assert!(rt; &out[0..2] == b"\x10\x03".as_slice());
+    assert!(rt; &out[2..14] == b"\x04\x00\x01\x00\x00\x00\x01\x00\x00\x40\x00\x04".as_slice());
     let back = decode(&AtMostPeriod, CODES, &out[0..38])?;
     let mut again = [0u8; 38];
     assert_eq!(rt; encode(CODES, &back, &mut again)?, 38);
