@@ -8,7 +8,7 @@ use Rattle.tasks.proofs.Ranges.{sum_mono, sum_up, least_is, largest_is}
 use Rattle.tasks.proofs.Words.{holds_first}
 use Rattle.response.specs.Tests.{task_load, job_load, demand, section_below, blocking, settled, one_job, one_job_admits, window, window_admits, busy, closes, delay}
 use Rattle.response.specs.Demand.{AllLegal, held_legal, load_held, settled_is, settles}
-use Rattle.response.specs.Blocking.{section_other}
+use Rattle.response.proofs.Blocking.{section_other}
 use Rattle.response.specs.Jobs.{jobs, ended, closes_at}
 use Rattle.machine.specs.Claims.{KeepsLevels}
 use Rattle.machine.proofs.Levels.{max_at}

@@ -9,9 +9,12 @@ use Rattle.tasks.specs.Timing.{at}
 use Rattle.tasks.proofs.Ranges.{Least, least_some, least_is, largest_is, largest_most}
 use Rattle.response.specs.Tests.{blocking, section_below, busy, closes, delay, window}
 use Rattle.response.specs.Laws.{LeastSolution, Below, BusyWindow, LongestDelay, RoundingUpIsLeast, BlockingIsLongest, OneJobIsLeastSolution, WindowIsLongestDelay}
-use Rattle.response.specs.Demand.{AllLegal, least_solution, solution_settles, unsolved_settles, settles_unsolved}
-use Rattle.response.specs.Blocking.{section_other, section_held, section_self}
-use Rattle.response.specs.Jobs.{jobs, ended, closes_at, delay_at, window_at, warmer}
+use Rattle.response.specs.Demand.{AllLegal, least_solution}
+use Rattle.response.proofs.Demand.{solution_settles, unsolved_settles, settles_unsolved}
+use Rattle.response.specs.Blocking.{section_held}
+use Rattle.response.proofs.Blocking.{section_other, section_self}
+use Rattle.response.specs.Jobs.{jobs, ended, closes_at, delay_at, window_at}
+use Rattle.response.proofs.Jobs.{warmer}
 
 -- ---- rounding up
 

@@ -1,30 +1,17 @@
--- The blocking from below, and the laws of the one-job test.
-use Rattle.std.specs.Prelude.{◌≡◌, ℕ, zero, suc, ◌+◌, ◌<◌, ◌≤◌, Bool, true, false, cond, ◌||◌, ◌⊎◌, List, length, ◌==◌, ◌≢◌, slice_index_or}
+-- Lemmas for the laws of the one-job test: the blocking from below.
+use Rattle.std.specs.Prelude.{◌≡◌, ℕ, zero, suc, ◌+◌, ◌<◌, ◌≤◌, Bool, true, cond, ◌||◌, ◌⊎◌, List, length, ◌==◌}
 use Rattle.std.proofs.Common.{sym, ◌∙◌, ap, inl, inr, mul-le-mul_right}
-use native.Mathlib.Omega.{arith}
-use Rattle.std.proofs.lemmas.Bool.{cases_Bool, cond-true, cond-false, or_right, or_left, or_from, ne_eqb, eq-eqb}
-use Rattle.tasks.specs.declared.task.Task.{Task}
+use Rattle.std.proofs.Common.{arith}
+use Rattle.std.proofs.lemmas.Bool.{cases_Bool, cond-true, cond-false, or_right}
 use Rattle.tasks.specs.Numbers.{sum_below, max_below}
 use Rattle.tasks.specs.Sets.{holds, Part}
 use Rattle.tasks.specs.declared.task.Timing.{Timing}
-use Rattle.tasks.specs.Timing.{timed, at}
+use Rattle.tasks.specs.Timing.{at}
 use Rattle.response.specs.Tests.{job_load, demand, section_below, blocking, one_job, one_job_admits, Within, Monotone}
-use Rattle.response.specs.Demand.{AllLegal, held_legal, at_timed, ceiling_pos, load_held, load_other, settled_is, settles}
+use Rattle.response.specs.Demand.{AllLegal, held_legal, ceiling_pos, load_held, load_other, settled_is, settles}
 
 pub section_held : (ts : List Timing) (i h j : ℕ) → holds h j ≡ true → section_below ts i h j ≡ 0
 section_held ts i h j e = cond-true (j == i || holds h j) 0 (at ts j).section (or_right (j == i) (holds h j) e)
-
-pub section_self : (ts : List Timing) (i h j : ℕ) → j ≡ i → section_below ts i h j ≡ 0
-section_self ts i h j e = cond-true (j == i || holds h j) 0 (at ts j).section (or_left (j == i) (holds h j) (eq-eqb j i e))
-
-pub section_other : (ts : List Timing) (i h j : ℕ) → (j == i) ≡ false → holds h j ≡ false → section_below ts i h j ≡ (at ts j).section
-section_other ts i h j e f = cond-false (j == i || holds h j) 0 (at ts j).section (or_from (j == i) (holds h j) e f)
-
--- what a task of the list adds
-pub section_task : (tasks : List Task) (i h j : ℕ) (t : Task) → j < length tasks → t ≡ slice_index_or tasks j t → (j ≢ i) → holds h j ≡ false
-    → section_below (timed tasks) i h j ≡ t.section
-section_task tasks i h j t l e other below =
-    section_other (timed tasks) i h j (ne_eqb j i other) below ∙ ap (λ (s : Timing). s.section) (at_timed tasks j t l e)
 
 section_most : (ts : List Timing) (i h j : ℕ) → section_below ts i h j ≤ (at ts j).section
 section_most ts i h j = elim (cases_Bool (j == i || holds h j)) [

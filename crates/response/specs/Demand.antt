@@ -1,30 +1,15 @@
--- The demand of a window, and the windows that their own load fills.
-use Rattle.std.specs.Prelude.{◌≡◌, ℕ, zero, suc, ◌+◌, ◌*◌, ◌/◌, ◌%◌, ◌<◌, ◌≤◌, min, Bool, true, false, List, [], ◌∷◌, map, length, Some, None, ◌==◌, ◌≢◌, nat_eq, nat_le, slice_index_or}
-use Rattle.std.proofs.Common.{sym, ◌∙◌, ap, inl, inr, div-add-mod', mul-le-mul_left, mul-le-mul_right, add-mul, arith}
+-- Lemmas for the laws that the two tests give: the demand of a window, and the windows that their own load fills.
+use Rattle.std.specs.Prelude.{◌≡◌, ℕ, zero, suc, ◌+◌, ◌*◌, ◌/◌, ◌%◌, ◌<◌, ◌≤◌, Bool, true, false, List, length, Some, ◌==◌, nat_eq}
+use Rattle.std.proofs.Common.{ap, inl, inr, div-add-mod', mul-le-mul_right, arith}
 use Rattle.std.specs.Float.Ieee.Nearest.{div_mono}
-use Rattle.std.proofs.lemmas.List.{get_or-map, length-map}
-use Rattle.std.proofs.lemmas.Bool.{cases_Bool, cases_lt, cond-true, cond-false, le-leb, lt-leb, eq-eqb, ne_eqb, eqb-true, both_ways}
-use Rattle.tasks.specs.declared.task.Task.{Task}
-use Rattle.tasks.specs.Numbers.{ceiling, up_to}
+use Rattle.std.proofs.lemmas.Bool.{cases_Bool, cases_lt, cond-true, cond-false, eq-eqb, eqb-true, both_ways}
+use Rattle.tasks.specs.Numbers.{ceiling}
 use Rattle.tasks.specs.Sets.{holds}
 use Rattle.tasks.specs.declared.task.Timing.{Timing}
-use Rattle.tasks.specs.Tasks.{plain, timing_of}
-use Rattle.tasks.specs.Timing.{timed, at, Legal, Held}
-use Rattle.response.specs.Tests.{job_load, demand, settled, Under}
+use Rattle.tasks.specs.Timing.{at, Legal, Held}
+use Rattle.response.specs.Tests.{job_load, demand, settled}
 use Rattle.response.specs.Laws.{LeastSolution}
-use Rattle.tasks.proofs.Ranges.{sum_mono, least_none, least_some, least_is, least_isnt, least_below}
-
--- ---- quotients, rounded up
-
--- an execution of at most a period in every period begun
-pub ceiling_bound : (w t c : ℕ) → 1 ≤ t → c ≤ t → ceiling w t * c ≤ w + t
-ceiling_bound w t c pos h =
-    let m : ℕ = min 1 (w % t) in
-    let wide : (w / t + m) * c ≤ (w / t + m) * t = mul-le-mul_left (w / t + m) h in
-    let apart : (w / t + m) * t ≡ w / t * t + m * t = add-mul (w / t) m t in
-    let whole : w / t * t + w % t ≡ w = div-add-mod' w t in
-    let part : m * t ≤ 1 * t = mul-le-mul_right t (omega arith) in
-    omega arith
+use Rattle.tasks.proofs.Ranges.{sum_mono, least_is, least_below}
 
 pub ceiling_pos : (w t : ℕ) → 1 ≤ w → 1 ≤ t → 1 ≤ ceiling w t
 ceiling_pos w t a b = elim (cases_lt 0 (w / t)) [
@@ -47,16 +32,6 @@ ceiling_mono v w t pos h = elim (cases_lt (v / t) (w / t)) [
       omega arith
 ]
 
--- ---- the task at a position
-
-pub timed_length : (tasks : List Task) → length (timed tasks) ≡ length tasks
-timed_length tasks = length-map (map plain tasks) timing_of ∙ length-map tasks plain
-
-pub at_timed : (tasks : List Task) (j : ℕ) (t : Task) → j < length tasks → t ≡ slice_index_or tasks j t → at (timed tasks) j ≡ timing_of (plain t)
-at_timed tasks j t h e =
-    get_or-map timing_of (map plain tasks) j (plain t) _ (omega (arith, length-map tasks plain))
-    ∙ ap timing_of (get_or-map plain tasks j t (plain t) h ∙ ap plain (sym e))
-
 -- ---- the demand
 
 pub load_held : (ts : List Timing) (h w j : ℕ) → holds h j ≡ true → job_load ts h w j ≡ ceiling w (at ts j).period * (at ts j).execution
@@ -64,12 +39,6 @@ load_held ts h w j e = cond-true (holds h j) (ceiling w (at ts j).period * (at t
 
 pub load_other : (ts : List Timing) (h w j : ℕ) → holds h j ≡ false → job_load ts h w j ≡ 0
 load_other ts h w j e = cond-false (holds h j) (ceiling w (at ts j).period * (at ts j).execution) 0 e
-
--- what a task of the list adds
-pub load_task : (tasks : List Task) (h w j : ℕ) (t : Task) → j < length tasks → t ≡ slice_index_or tasks j t → holds h j ≡ true
-    → job_load (timed tasks) h w j ≡ ceiling w t.period * t.execution
-load_task tasks h w j t l e held =
-    load_held (timed tasks) h w j held ∙ ap (λ (s : Timing). ceiling w s.period * s.execution) (at_timed tasks j t l e)
 
 -- ---- the least window that its own load fills
 
@@ -89,26 +58,6 @@ module _ (ts : List Timing) (h base limit : ℕ) where
         l.1,
       )
 
-  pub solution_settles : (r : ℕ) → LeastSolution ts h base r → r ≤ limit → settled ts h base limit ≡ Some r
-  solution_settles r s le =
-      least_some (λ x. nat_eq x (base + demand ts h x)) limit r
-      (record {
-        from = s.positive;
-        passes = eq-eqb r (base + demand ts h r) s.solves;
-        first = λ k a l. ne_eqb k (base + demand ts h k) (λ same. let x = s.first k a same in omega arith);
-      })
-      le
-
-  pub unsolved_settles : ((x : ℕ) → 1 ≤ x → x ≤ limit → x ≢ base + demand ts h x) → settled ts h base limit ≡ None
-  unsolved_settles none =
-      least_none (λ x. nat_eq x (base + demand ts h x)) limit
-      (λ k a l. ne_eqb k (base + demand ts h k) (λ same. none k a l same))
-
-  pub settles_unsolved : settled ts h base limit ≡ None → (x : ℕ) → 1 ≤ x → x ≤ limit → x ≢ base + demand ts h x
-  settles_unsolved e x a le fills =
-      both_ways (x == base + demand ts h x)
-      (least_isnt (λ x. nat_eq x (base + demand ts h x)) limit e x a le) (eq-eqb x (base + demand ts h x) fills)
-
 abbrev pub AllLegal : List Timing → Type 0
 AllLegal ts = (j : ℕ) → j < length ts → Legal (at ts j)
 
@@ -121,21 +70,6 @@ module _ (ts : List Timing) (legal : AllLegal ts) (h : ℕ) where
     | inl e ↦ rw (load_held ts h v j e, load_held ts h w j e) (mul-le-mul_right _ (ceiling_mono v w (at ts j).period (let t = legal j l in omega arith) le))
     | inr e ↦ rw (load_other ts h v j e) (omega arith)
   ])
-
-  pub under_next : (base w : ℕ) → Under ts h base w → Under ts h base (base + demand ts h w)
-  under_next base w u = record {
-    from = omega (arith, u);
-    rising = let m = demand_mono w (base + demand ts h w) u.rising in omega arith;
-    lowest = λ x a e. let m = demand_mono w x (u.lowest x a e) in omega arith;
-  }
-
-  pub settled_at : (base w limit : ℕ) → Under ts h base w → w ≡ base + demand ts h w → w ≤ limit → settled ts h base limit ≡ Some w
-  settled_at base w limit u e le =
-      solution_settles ts h base limit w (record { positive = u.from; solves = e; first = u.lowest }) le
-
-  pub settled_past : (base w limit : ℕ) → Under ts h base w → limit < base + demand ts h w → settled ts h base limit ≡ None
-  settled_past base w limit u past =
-      unsolved_settles ts h base limit (λ k a l same. let x = (under_next base w u).lowest k a same in omega arith)
 
   -- what an answer says
   pub settled_is : (base limit r : ℕ) → settled ts h base limit ≡ Some r
@@ -159,29 +93,3 @@ module _ (ts : List Timing) (legal : AllLegal ts) (h : ℕ) where
       let at_y = eq-eqb y.0 (base + demand ts h y.0) y.1 in
       let s = least_below (λ x. nat_eq x (base + demand ts h x)) limit y.0 (omega (arith, y.1)) (omega (arith, y.2)) at_y in
       (s.0, s.1, omega (arith, s.2, y.2))
-
--- tasks have legal timings
-pub tasks_legal : (tasks : List Task) → AllLegal (timed tasks)
-tasks_legal [] j l = absurd (omega arith)
-tasks_legal (t ∷ tasks) zero l = record { runs = omega (arith, t.preempted); meets = t.in_deadline; repeats = t.in_period; opens = t.preempted }
-tasks_legal (t ∷ tasks) (suc j) l = tasks_legal tasks j (omega arith)
-
--- ---- up to a limit
-
-pub up_to_past : (limit n : ℕ) → limit < n → up_to limit n ≡ None
-up_to_past limit n l = cond-false (nat_le n limit) (Some n) None (lt-leb n limit l)
-
-pub up_to_at : (limit n : ℕ) → n ≤ limit → up_to limit n ≡ Some n
-up_to_at limit n l = cond-true (nat_le n limit) (Some n) None (le-leb n limit l)
-
-pub up_to_is : (limit n x : ℕ) → up_to limit n ≡ Some x → (x ≡ n) × (n ≤ limit)
-up_to_is limit n x e = elim (cases_lt limit n) [
-  | inl l ↦ let o = up_to_past limit n l in let z : ◌≡◌ {A = ℕ} 0 1 = cc in absurd (omega arith)
-  | inr l ↦ let o = up_to_at limit n l in (cc, l)
-]
-
-pub up_to_isnt : (limit n : ℕ) → up_to limit n ≡ None → limit < n
-up_to_isnt limit n e = elim (cases_lt limit n) [
-  | inl l ↦ l
-  | inr l ↦ let o = up_to_at limit n l in let z : ◌≡◌ {A = ℕ} 0 1 = cc in absurd (omega arith)
-]

@@ -16,7 +16,6 @@ pub trait ResponseTest: Admission {
         ensures { result ≡ number };
 
     // The response time of the task at `position` with the tasks of `above` above it; none where it is late.
-
     fn respond(&self, tasks: &[Task], position: usize, above: TaskSet) -> Option<u32>
         requires { position < length tasks.now }
         ensures { result ≡ answer self.now (timed tasks.now) position above.word };

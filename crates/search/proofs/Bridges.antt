@@ -7,7 +7,7 @@ use Rattle.tasks.specs.declared.task.Timing.{Timing}
 use Rattle.tasks.specs.Tasks.{plain, timing_of}
 use Rattle.tasks.specs.Timing.{timings, timed, Held}
 use Rattle.response.specs.Tests as response
-use Rattle.response.specs.Demand.{tasks_legal}
+use Rattle.response.proofs.Demand.{tasks_legal}
 use Rattle.costs.specs.Prices.{Prices, Lawful}
 use Rattle.costs.specs.Folds.{no_task}
 use Rattle.orders.specs.Orders.{Monotone}

@@ -45,10 +45,14 @@ fn first_order_of_three(rt: HostRuntime) -> Result<(), Fail> {
     match first_order(&OneJob, &Sum, &three(&rt)?) {
         Some(first) => {
             assert_eq!(rt; first.level(), 3);
-            let order = first.order;
-            assert!(rt; order[0] == 1 && order[1] == 0 && order[2] == 2);
-            let times = first.times;
-            assert!(rt; times[0] == 3 && times[1] == 2 && times[2] == 10);
+            let [top, middle, bottom, ..] = first.order;
+            assert_eq!(rt; top, 1);
+            assert_eq!(rt; middle, 0);
+            assert_eq!(rt; bottom, 2);
+            let [first_time, second_time, third_time, ..] = first.times;
+            assert_eq!(rt; first_time, 3);
+            assert_eq!(rt; second_time, 2);
+            assert_eq!(rt; third_time, 10);
             Ok(())
         }
         None => {
@@ -97,8 +101,8 @@ fn longer_task_above(rt: HostRuntime) -> Result<(), Fail> {
         return Err(Fail::new("no order"));
     }
     let _ = search.advance(&OneJob, &Sum, &tasks, vertex_bound(&tasks));
-    let order = search.best().order;
-    assert!(rt; order[0] == 0);
+    let [top, ..] = search.best().order;
+    assert_eq!(rt; top, 0);
     assert_eq!(rt; search.best_cost(&Sum, &tasks), 13);
     Ok(())
 }

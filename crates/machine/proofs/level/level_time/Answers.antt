@@ -1,6 +1,6 @@
 use Rattle.std.proofs.Common.{◌≡◌, ℕ, ◌<◌, ◌≤◌, length, get_or, take, refl, ap, ◌∙◌, arith}
 use Rattle.tasks.specs.Timing.{timed}
-use Rattle.response.specs.Demand.{timed_length}
+use Rattle.response.proofs.Demand.{timed_length}
 use Rattle.orders.specs.Orders.{Order, word}
 use Rattle.machine.proofs.Places.{position, above_word}
 use Rattle.machine.proofs.Keeps.{level_kept, none_kept}

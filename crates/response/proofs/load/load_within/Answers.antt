@@ -3,7 +3,8 @@ use Rattle.tasks.specs.Numbers.{sum_below}
 use Rattle.tasks.specs.Timing.{timed}
 use Rattle.response.specs.Tests.{job_load}
 use Rattle.tasks.proofs.Ranges.{sum_up, sum_next}
-use Rattle.response.specs.Demand.{ceiling_bound, timed_length, load_task, load_other, up_to_past, up_to_at}
+use Rattle.response.specs.Demand.{load_other}
+use Rattle.response.proofs.Demand.{ceiling_bound, timed_length, load_task, up_to_past, up_to_at}
 use Rattle.response.proofs.load.load_within.Goals as goal
 use Rattle.response.proofs.load.load_within.Goals.{then-contains, else-contains}
 

@@ -1,7 +1,7 @@
 use Rattle.std.proofs.Common.{sym, ◌∙◌, subst, arith}
 use Rattle.tasks.specs.Timing.{timed}
 use Rattle.response.specs.Tests.{Under}
-use Rattle.response.specs.Demand.{tasks_legal, under_next, settled_at, settled_past, up_to_is, up_to_isnt}
+use Rattle.response.proofs.Demand.{tasks_legal, under_next, settled_at, settled_past, up_to_is, up_to_isnt}
 use Rattle.response.proofs.load.settle.Goals as goal
 
 pub returns-in_err-next : goal.returns-in_err-next

@@ -3,8 +3,9 @@ use Rattle.tasks.specs.Numbers.{max_below}
 use Rattle.tasks.specs.Timing.{timed}
 use Rattle.response.specs.Tests.{section_below}
 use Rattle.tasks.proofs.Ranges.{max_next}
-use Rattle.response.specs.Demand.{timed_length}
-use Rattle.response.specs.Blocking.{section_task, section_held, section_self}
+use Rattle.response.proofs.Demand.{timed_length}
+use Rattle.response.specs.Blocking.{section_held}
+use Rattle.response.proofs.Blocking.{section_task, section_self}
 use Rattle.response.proofs.one_job.longest_below.Goals as goal
 use Rattle.response.proofs.one_job.longest_below.Goals.{then-other-position+then-not-contains, else-other-position, else-other-position-via-then-other-position+else-not-contains, else-other-position-via-else-other-position}
 

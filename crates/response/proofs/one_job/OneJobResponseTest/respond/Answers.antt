@@ -2,7 +2,7 @@ use Rattle.std.proofs.Common.{ℕ, ◌+◌, sym, ap, ◌∙◌}
 use Rattle.tasks.specs.declared.task.Timing.{Timing}
 use Rattle.tasks.specs.Timing.{timed}
 use Rattle.response.specs.Tests.{settled, blocking}
-use Rattle.response.specs.Demand.{at_timed}
+use Rattle.response.proofs.Demand.{at_timed}
 use Rattle.response.proofs.one_job.OneJobResponseTest.respond.Goals as goal
 
 pub returns : goal.returns

@@ -3,8 +3,9 @@ use Rattle.std.proofs.lemmas.Nat.{mul-le}
 use Rattle.tasks.specs.declared.task.Timing.{Timing}
 use Rattle.tasks.specs.Timing.{timed}
 use Rattle.response.specs.Tests.{Under}
-use Rattle.response.specs.Demand.{timed_length, at_timed, tasks_legal, settled_is}
-use Rattle.response.specs.Jobs.{SoFar, busy_by, so_far_start, so_far_next, so_far_ends, so_far_late, so_far_open}
+use Rattle.response.specs.Demand.{settled_is}
+use Rattle.response.proofs.Demand.{timed_length, at_timed, tasks_legal}
+use Rattle.response.proofs.Jobs.{SoFar, busy_by, so_far_start, so_far_next, so_far_ends, so_far_late, so_far_open}
 use Rattle.response.proofs.window.WindowResponseTest.respond.Goals as goal
 
 pub loop-job-init : goal.loop-job-init

@@ -1,5 +1,5 @@
 use Rattle.tasks.specs.Timing.{timed}
-use Rattle.response.specs.Jobs.{SoFar}
+use Rattle.response.proofs.Jobs.{SoFar}
 use Rattle.response.proofs.window.WindowResponseTest.respond.Given as goal
 
 abbrev pub invariant-loop-job : goal.invariant-loop-job
