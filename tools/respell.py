@@ -20,7 +20,7 @@ KIND = re.compile(r"^\s*(?:pub\s+)?(?:record|data)\s+([^\s(){};,.:=]+)")
 ALIAS = re.compile(r"[\w'′-]+\s+as\s+([^\s(){};,.]+)")
 IMPORT = re.compile(r"(?:^|\n)\s*(?:ghost\s+|pub\s+)*use\s+([^;{}\n]+?)(?:\.\{([^}]*)\})?(?:\s+as\s+(\S+?))?;?(?=\n|$)")
 OWN = None
-# Names that a file would have twice: the bytes of a level are also defined of a plan's levels, and a fault is called NoOrder.
+# Names that would be spelled like another of the repository: the bytes of a level are also defined of a plan's levels, and a fault is called NoOrder.
 INSTEAD = {"levelBytes": "level_record", "No-order": "HasNoOrder"}
 # An import's other name, and a definition of another crate; no file has both.
 APART = {"listing_text"}
