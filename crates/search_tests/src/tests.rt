@@ -5,14 +5,12 @@ use search::best::best_order;
 use search::first::first_order;
 use search::search::Search;
 use search::tree::vertex_bound;
-use std::process::Abort;
 use std::test::Fail;
 use tasks::list::TaskList;
 use tasks::task::Candidate;
 
 // One task more, with its period for its deadline.
 fn add(
-    rt: &impl Abort,
     tasks: &mut TaskList,
     id: u32,
     execution: u32,
@@ -28,21 +26,23 @@ fn add(
         deadline: period,
         period,
     };
-    assert!(rt; tasks.push(candidate.check(0)?));
+    if !tasks.push(candidate.check(0)?) {
+        return Err(Fail::new("the list is full"));
+    }
     Ok(())
 }
 
-fn three(rt: &impl Abort) -> Result<TaskList, Fail> {
+fn three() -> Result<TaskList, Fail> {
     let mut tasks = TaskList::new();
-    add(rt, &mut tasks, 1, 1, 4, 1)?;
-    add(rt, &mut tasks, 2, 2, 6, 1)?;
-    add(rt, &mut tasks, 3, 3, 12, 10)?;
+    add(&mut tasks, 1, 1, 4, 1)?;
+    add(&mut tasks, 2, 2, 6, 1)?;
+    add(&mut tasks, 3, 3, 12, 10)?;
     Ok(tasks)
 }
 
 #[test]
 fn first_order_of_three(rt: HostRuntime) -> Result<(), Fail> {
-    match first_order(&OneJob, &Sum, &three(&rt)?) {
+    match first_order(&OneJob, &Sum, &three()?) {
         Some(first) => {
             assert_eq!(rt; first.level(), 3);
             let [top, middle, bottom, ..] = first.order;
@@ -64,7 +64,7 @@ fn first_order_of_three(rt: HostRuntime) -> Result<(), Fail> {
 
 #[test]
 fn search_of_three(rt: HostRuntime) -> Result<(), Fail> {
-    let tasks = three(&rt)?;
+    let tasks = three()?;
     let mut search = Search::new(rt.alloc())?;
     if !search.start(&OneJob, &Sum, &tasks) {
         return Err(Fail::new("no order"));
@@ -83,8 +83,8 @@ fn search_of_three(rt: HostRuntime) -> Result<(), Fail> {
 #[test]
 fn no_order(rt: HostRuntime) -> Result<(), Fail> {
     let mut tasks = TaskList::new();
-    add(&rt, &mut tasks, 1, 2, 3, 1)?;
-    add(&rt, &mut tasks, 2, 2, 4, 1)?;
+    add(&mut tasks, 1, 2, 3, 1)?;
+    add(&mut tasks, 2, 2, 4, 1)?;
     let found = best_order(rt.alloc(), &OneJob, &Sum, &tasks)?;
     assert!(rt; found.is_none());
     Ok(())
@@ -94,8 +94,8 @@ fn no_order(rt: HostRuntime) -> Result<(), Fail> {
 #[test]
 fn longer_task_above(rt: HostRuntime) -> Result<(), Fail> {
     let mut tasks = TaskList::new();
-    add(&rt, &mut tasks, 1, 2, 3, 5)?;
-    add(&rt, &mut tasks, 2, 1, 4, 1)?;
+    add(&mut tasks, 1, 2, 3, 5)?;
+    add(&mut tasks, 2, 1, 4, 1)?;
     let mut search = Search::new(rt.alloc())?;
     if !search.start(&OneJob, &Sum, &tasks) {
         return Err(Fail::new("no order"));

@@ -1,7 +1,6 @@
 // The sample table, and an admission to decode it under.
 ghost use Rattle.std.specs.Prelude.{Bool, nat_le};
 
-use std::process::Abort;
 use std::test::Fail;
 use tasks::admission::Admission;
 use tasks::list::{Codes, TaskList};
@@ -39,14 +38,16 @@ pub fn candidate(id: u32, section: u32, execution: u32, time: u32) -> Candidate 
     }
 }
 
-pub fn sample_tasks(rt: &impl Abort) -> Result<TaskList, Fail> {
+pub fn sample_tasks() -> Result<TaskList, Fail> {
     let mut tasks = TaskList::new();
     let heavy = Candidate {
         weight: 10,
         ..candidate(3, 0, 3, 12)
     };
     for candidate in [candidate(1, 0, 1, 4), candidate(2, 0, 2, 6), heavy] {
-        assert!(rt; tasks.push(candidate.check(0)?));
+        if !tasks.push(candidate.check(0)?) {
+            return Err(Fail::new("the list is full"));
+        }
     }
     Ok(tasks)
 }

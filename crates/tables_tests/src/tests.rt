@@ -25,7 +25,7 @@ fn with_byte(at: usize, byte: u8) -> [u8; 38] {
 #[test]
 fn the_sample_there_and_back(rt: HostRuntime) -> Result<(), Fail> {
     let mut out = [7u8; 40];
-    let tasks = sample_tasks(&rt)?;
+    let tasks = sample_tasks()?;
     assert_eq!(rt; encode(CODES, &tasks, &mut out)?, 38);
     assert!(rt; &out[0..38] == SAMPLE.as_slice());
     assert!(rt; out[38] == 7 && out[39] == 7);
@@ -88,7 +88,7 @@ fn refusals_of_section_admission_and_id(rt: HostRuntime) {
 
 #[test]
 fn a_buffer_too_small_is_left_alone(rt: HostRuntime) -> Result<(), Fail> {
-    let tasks = sample_tasks(&rt)?;
+    let tasks = sample_tasks()?;
     let mut out = [7u8; 37];
     match encode(CODES, &tasks, &mut out) {
         Ok(_) => Err(Fail::new("written past the buffer")),
