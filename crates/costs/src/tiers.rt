@@ -8,7 +8,8 @@ use crate::cost::Cost;
 #[derive(Clone, Copy)]
 pub struct Tiers;
 
-#[derive(Clone, Copy)]
+// Totals compare as their derived order says: by the first, and on a tie by the second.
+#[derive(Clone, Copy, PartialEq, Eq, PartialOrd, Ord, Debug)]
 pub struct Totals {
     pub first: u64,
     pub second: u64,
@@ -71,7 +72,7 @@ impl Cost for Tiers {
     }
 
     fn no_more(&self, a: Totals, b: Totals) -> bool {
-        a.first < b.first || (a.first == b.first && a.second <= b.second)
+        a <= b
     }
 
     fn shown(&self, a: Totals) -> (u64, u64) {

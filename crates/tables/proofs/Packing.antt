@@ -6,6 +6,7 @@ use Rattle.std.specs.Int.Digits.{number_from_digits, number_from_digits_after, A
 use Rattle.std.proofs.lemmas.Nat.{field_of, mod_below, mod_low, mod-pow-add, mul-add-lt, or_shifted, pow-add, pow_pos, shl_whole, shr_high, shr-shr}
 use Rattle.std.proofs.lemmas.Int.Digits.{number_lt}
 use Rattle.std.proofs.lemmas.Bool.{cases_lt}
+use Rattle.std.specs.Borrow.{Bor}
 use Rattle.tables.specs.Bits.{field, bytes_of}
 
 pow_8 : (k : ℕ) → 2 ^ (8 * suc k) ≡ 256 * 2 ^ (8 * k)
@@ -122,3 +123,8 @@ field_bit (b ∷ bs) at u h = ⊎_elim
     let inside : q < 8 * length bs = omega arith in
     rw (byte, place) (ap (λ p. field (b ∷ bs) p 1) is ∙ (later_byte b bs q inside ∙ field_bit bs q u.1 inside)))
     (cases_lt at 8)
+
+-- a field that was taken where the bytes and the place are known
+pub taken_from : {value at at' : ℕ} {bytes bytes' : Bor (List ℕ)} (width : ℕ) → value ≡ field bytes'.now at' width → bytes' ≡ bytes → at' ≡ at
+    → value ≡ field bytes.now at width
+taken_from width is same here = is ∙ (λ i. field (same i).now (here i) width)

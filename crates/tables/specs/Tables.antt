@@ -1,8 +1,9 @@
 -- The packed table: two header bytes, then twelve bytes for each task.
-use Rattle.std.specs.Prelude.{◌≡◌, ℕ, zero, suc, ◌+◌, ◌-◌, ◌*◌, ◌<◌, ◌≤◌, Bool, cond, ◌&&◌, List, [], ◌∷◌, ◌++◌, map, length, take, drop, Some, None, Ok, Err, Option, Result, ◌==◌, nat_le, nat_lt}
+use Rattle.std.specs.Prelude.{◌≡◌, ℕ, ◌+◌, ◌-◌, ◌*◌, ◌<◌, ◌≤◌, Bool, cond, ◌&&◌, List, [], ◌∷◌, ◌++◌, map, length, take, drop, Some, None, Ok, Err, Option, Result, ◌==◌, nat_le, nat_lt}
 use Rattle.std.specs.Borrow.{Bor}
 use Rattle.std.specs.Option.{option_map}
 use Rattle.std.specs.List.{flat_map}
+use Rattle.std.specs.Simd.{first_chunks}
 use Rattle.tasks.specs.declared.fault.Fault.{Fault}
 use Rattle.tasks.specs.declared.fault.Fault.TheVariants.{File, Task, Plan}
 use Rattle.tasks.specs.declared.fault.FileFault.{FileFault}
@@ -44,8 +45,7 @@ records_fault admitted n floor (bytes ∷ rest) =
 
 -- the first n runs of twelve bytes
 abbrev pub chunks : ℕ → List ℕ → List (List ℕ)
-chunks zero bytes = []
-chunks (suc n) bytes = take 12 bytes ∷ chunks n (drop 12 bytes)
+chunks n bytes = first_chunks 12 n bytes
 
 -- the numbers in the two header bytes
 abbrev pub header_in : List ℕ → Header

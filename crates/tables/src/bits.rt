@@ -4,11 +4,13 @@ ghost use Rattle.tables.specs.Bits.{field, Taken};
 
 use tasks::fault::FileFault;
 
-// Some bytes, and the place of the next bit to take.
+// Some bytes, and the place of the next bit to take: a slice of what is left could not begin inside a byte.
 #[derive(Drop)]
 pub struct BitReader<'a> {
     pub bytes: &'a [u8],
     pub at: usize,
+    ghost short: { length bytes.now ≤ 4096 },
+    ghost inside: { at ≤ 8 * length bytes.now },
 }
 
 // The bit at a place, where bit 0 is the highest of the first byte.
@@ -22,9 +24,7 @@ fn bit(bytes: &[u8], at: usize) -> u32
 impl<'a> BitReader<'a> {
     // The number in the next `width` bits; a fault where fewer are left.
     pub fn take(&mut self, width: usize) -> Result<u32, FileFault>
-        requires width { width ≤ 32 }
-        requires bytes { length self.old.bytes.now ≤ 4096 }
-        requires at { self.old.at ≤ 8 * length self.old.bytes.now }
+        requires { width ≤ 32 }
         ensures taken { Taken self.old.bytes.now self.old.at width result self.new.at }
         ensures bytes { self.new.bytes ≡ self.old.bytes }
     {

@@ -16,11 +16,13 @@ pub struct Header {
     pub count: u32,
 }
 
-fn read_header(bytes: &[u8]) -> Result<Header, FileFault>
-    requires { length bytes.now ≡ 2 }
-    ensures { result ≡ Ok (header_in bytes.now) }
+fn read_header(bytes: [u8; 2]) -> Result<Header, FileFault>
+    ensures { result ≡ Ok (header_in bytes) }
 {
-    let mut bits = BitReader { bytes, at: 0 };
+    let mut bits = BitReader {
+        bytes: &bytes,
+        at: 0,
+    };
     let format = bits.take(4)?;
     let test = bits.take(2)?;
     let cost = bits.take(2)?;
@@ -42,14 +44,13 @@ pub fn split(file: &[u8]) -> Result<(Header, &[u8]), FileFault>
     let [first, second, records @ ..] = file else {
         return Err(FileFault::Length);
     };
-    Ok((read_header(&[*first, *second])?, records))
+    Ok((read_header([*first, *second])?, records))
 }
 
-// Writes the header of a table with `count` records into two bytes.
-pub fn write_header(codes: Codes, count: u8, out: &mut [u8])
-    requires size { length out.old ≡ 2 }
-    requires count { count ≤ 16 }
-    ensures { out.new ≡ bytes_of 2 (packed 0 (header_fields codes.test codes.cost count)) }
+// The two bytes of the header of a table with `count` records.
+pub fn header_bytes(codes: Codes, count: u8) -> [u8; 2]
+    requires { count ≤ 16 }
+    ensures { result ≡ bytes_of 2 (packed 0 (header_fields codes.test codes.cost count)) }
 {
     let bits = BitWriter::new()
         .put(4, 1)
@@ -57,5 +58,6 @@ pub fn write_header(codes: Codes, count: u8, out: &mut [u8])
         .put(2, u32::from(codes.cost))
         .put(3, 0)
         .put(5, u32::from(count));
-    out.copy_from_slice(&bits.word.to_be_bytes()[14..16]);
+    let word = bits.word.to_be_bytes();
+    [word[14], word[15]]
 }

@@ -10,8 +10,7 @@ use tasks::fault::{Fault, FileFault, TaskFault};
 use tasks::task::{Candidate, Task};
 
 // The numbers of a record, and its spare bit.
-fn read_fields(bytes: &[u8]) -> Result<(u32, Candidate), FileFault>
-    requires { length bytes.now ≡ 12 }
+fn read_fields(bytes: &[u8; 12]) -> Result<(u32, Candidate), FileFault>
     ensures { result ≡ Ok (field bytes.now 7 1, candidate bytes.now) }
 {
     let mut bits = BitReader { bytes, at: 0 };
@@ -38,8 +37,7 @@ fn read_fields(bytes: &[u8]) -> Result<(u32, Candidate), FileFault>
 }
 
 // The task in a record, or the first rule that the record breaks.
-pub fn read_task<T: Admission>(test: &T, bytes: &[u8], record: u8) -> Result<Task, Fault>
-    requires { length bytes.now ≡ 12 }
+pub fn read_task<T: Admission>(test: &T, bytes: &[u8; 12], record: u8) -> Result<Task, Fault>
     ensures { ReadAs (T.admitted test.now) «record» bytes.now result }
 {
     let (spare, candidate) = read_fields(bytes)?;
@@ -53,10 +51,9 @@ pub fn read_task<T: Admission>(test: &T, bytes: &[u8], record: u8) -> Result<Tas
     Ok(task)
 }
 
-// Writes a task's record into twelve bytes.
-pub fn write_task(task: &Task, out: &mut [u8])
-    requires { length out.old ≡ 12 }
-    ensures { out.new ≡ record_bytes (plain task.now) }
+// The twelve bytes of a task's record.
+pub fn task_bytes(task: &Task) -> [u8; 12]
+    ensures { result ≡ record_bytes (plain task.now) }
 {
     let bits = BitWriter::new()
         .put(6, u32::from(task.id))
@@ -67,5 +64,7 @@ pub fn write_task(task: &Task, out: &mut [u8])
         .put(20, task.execution)
         .put(20, task.deadline)
         .put(20, task.period);
-    out.copy_from_slice(&bits.word.to_be_bytes()[4..16]);
+    let mut record = [0; 12];
+    record.copy_from_slice(&bits.word.to_be_bytes()[4..16]);
+    record
 }

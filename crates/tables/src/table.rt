@@ -1,14 +1,14 @@
 // The packed table: decoding, encoding, and handing out one record.
-ghost use Rattle.std.specs.Prelude.{◌≡◌, ◌*◌, ◌/◌, ◌%◌, ◌≤◌, length, IfOk, Some, None, MatchResult};
+ghost use Rattle.std.specs.Prelude.{◌≡◌, ◌≤◌, length, IfOk, Some, None, MatchResult};
 ghost use Rattle.std.specs.Option.{option_map};
 ghost use Rattle.tasks.specs.Buffers.{delivered};
 ghost use Rattle.tables.specs.Examples.{Examples};
 ghost use Rattle.tables.specs.Pairing.{Back, Pairs};
 ghost use Rattle.tasks.specs.Lists.{plains, plainly, bytewise};
-ghost use Rattle.tables.specs.Tables.{header_fault, rows, chunks, decoded, encoded, record_at, code_pair, codes_in};
+ghost use Rattle.tables.specs.Tables.{header_fault, rows, decoded, encoded, record_at, code_pair, codes_in};
 
-use crate::header::{Header, split, write_header};
-use crate::record::{read_task, write_task};
+use crate::header::{Header, header_bytes, split};
+use crate::record::{read_task, task_bytes};
 use tasks::admission::Admission;
 use tasks::fault::{Fault, FileFault, PlanFault};
 use tasks::list::{Codes, TaskList};
@@ -61,21 +61,20 @@ fn check_header(header: Header, codes: Codes) -> Result<(), Fault>
 }
 
 // The tasks of at most sixteen records.
-fn read_tasks<T: Admission>(test: &T, records: &[u8]) -> Result<TaskList, Fault>
-    requires whole { length records.now % 12 ≡ 0 }
-    requires few { length records.now ≤ 12 * 16 }
-    ensures { plainly result ≡ rows (T.admitted test.now) (chunks (length records.now / 12) records.now) }
+fn read_tasks<T: Admission>(test: &T, records: &[[u8; 12]]) -> Result<TaskList, Fault>
+    requires { length records.now ≤ 16 }
+    ensures { plainly result ≡ rows (T.admitted test.now) records.now }
 {
     let mut tasks = TaskList::new();
     let mut floor = 0;
-    for (done, bytes) in records.chunks_exact(12).enumerate() {
+    for (done, bytes) in records.iter().enumerate() {
         let n = done as u8 + 1;
         let task = read_task(test, bytes, n)?;
         if task.id < floor {
             return Err(Fault::Plan(PlanFault::Order(n)));
         }
         floor = task.id + 1;
-        let _ = tasks.push(task);
+        tasks.push(task)?;
     }
     Ok(tasks)
 }
@@ -86,11 +85,12 @@ pub fn decode<T: Admission>(test: &T, codes: Codes, file: &[u8]) -> Result<TaskL
     ensures table { IfOk result (λ l. encoded codes.test codes.cost (plains l) ≡ file.now) }
     ensures pairs { Pairs (T.admitted test.now) codes.test codes.cost }
 {
-    let (header, records) = split(file)?;
+    let (header, bytes) = split(file)?;
     check_header(header, codes)?;
-    if records.len() != 12 * header.count as usize {
+    if bytes.len() != 12 * header.count as usize {
         return Err(Fault::File(FileFault::Length));
     }
+    let (records, _) = bytes.as_chunks();
     read_tasks(test, records)
 }
 
@@ -104,16 +104,14 @@ pub fn encode(codes: Codes, list: &TaskList, out: &mut [u8]) -> Result<usize, Fa
     if out.len() < size {
         return Err(Fault::Plan(PlanFault::Buffer));
     }
-    write_header(codes, tasks.len() as u8, &mut out[0..2]);
+    out[0..2].copy_from_slice(&header_bytes(codes, tasks.len() as u8));
     for (k, task) in tasks.iter().enumerate() {
-        write_task(task, &mut out[2 + 12 * k..14 + 12 * k]);
+        out[2 + 12 * k..14 + 12 * k].copy_from_slice(&task_bytes(task));
     }
     Ok(size)
 }
 
 // The worked examples hold of the definitions.
-pub fn examples_stand() -> bool
+pub fn examples_stand()
     ensures { Examples }
-{
-    true
-}
+{}

@@ -1,7 +1,7 @@
 // What a table or a task is refused for, by layer.
 ghost use Rattle.std.specs.Prelude.{◌≡◌};
 ghost use Rattle.tasks.specs.Faults.{number_of, layer_of, record_of};
-ghost use Rattle.tasks.specs.declared.fault.Fault.TheVariants.{File, Task};
+ghost use Rattle.tasks.specs.declared.fault.Fault.TheVariants.{File, Task, Plan};
 
 // A fault of the file; a spare bit names its record, and 0 for the header.
 #[derive(Clone, Copy, Debug)]
@@ -96,12 +96,14 @@ impl Fault {
         ensures { result ≡ record_of self }
     {
         match self {
-            Fault::File(FileFault::Spare(n)) => n,
-            Fault::Task(TaskFault::Range(n)) => n,
-            Fault::Task(TaskFault::Deadline(n)) => n,
-            Fault::Task(TaskFault::Section(n)) => n,
-            Fault::Task(TaskFault::NotAdmitted(n)) => n,
-            Fault::Plan(PlanFault::Order(n)) => n,
+            Fault::File(FileFault::Spare(n))
+            | Fault::Task(
+                TaskFault::Range(n)
+                | TaskFault::Deadline(n)
+                | TaskFault::Section(n)
+                | TaskFault::NotAdmitted(n),
+            )
+            | Fault::Plan(PlanFault::Order(n)) => n,
             _ => 0,
         }
     }
@@ -120,5 +122,13 @@ impl From<TaskFault> for Fault {
 
     fn from(e: TaskFault) -> Fault {
         Fault::Task(e)
+    }
+}
+
+impl From<PlanFault> for Fault {
+    ghost from_gives = { λ e f. f ≡ Plan e };
+
+    fn from(e: PlanFault) -> Fault {
+        Fault::Plan(e)
     }
 }

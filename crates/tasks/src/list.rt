@@ -1,13 +1,14 @@
 // Up to sixteen tasks, and the codes of a plan.
-ghost use Rattle.std.specs.Prelude.{◌<◌, ◌≤◌};
+ghost use Rattle.std.specs.Prelude.{◌<◌, ◌≤◌, length};
 
 use crate::task::Task;
+use arrayvec::ArrayVec;
 
-#[derive(Clone, Copy)]
+// The tasks lie in the list itself: nothing is allocated for them.
+#[derive(Drop)]
 pub struct TaskList {
-    pub tasks: [Task; 16],
-    pub len: usize,
-    ghost few: { len ≤ 16 },
+    pub tasks: ArrayVec<Task, 16>,
+    ghost few: { length tasks.items ≤ 16 },
 }
 
 // The codes of a response test and of a cost.

@@ -2,7 +2,7 @@ use Rattle.std.proofs.Common.{◌≡◌, ℕ, List, take, drop, ap, ◌∙◌, d
 use Rattle.tables.specs.Bits.{bytes_of, packed}
 use Rattle.tables.specs.Tables.{record_fields}
 use Rattle.tasks.specs.Tasks.{plain}
-use Rattle.tables.proofs.record.write_task.Goals as goal
+use Rattle.tables.proofs.record.task_bytes.Goals as goal
 
 pub returns : goal.returns
 unfolding bytes_of
