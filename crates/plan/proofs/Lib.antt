@@ -1,5 +1,6 @@
 pub mod Edits
 pub mod Replies
+pub mod Places
 pub mod Words
 pub mod Searches
 pub mod Shown

@@ -1,38 +1,16 @@
 -- Sets of ids, one id or one position at a time.
-use Rattle.std.proofs.Common.{◌≡◌, ℕ, zero, suc, ◌+◌, ◌^◌, ◌<◌, Bool, true, false, ◌&&◌, List, get_or, is_some, Some, None, Option, sym, refl, inl, inr, add-one, arith}
-use Rattle.std.proofs.lemmas.Bool.{cases_lt}
+use Rattle.std.proofs.Common.{◌≡◌, ℕ, ◌+◌, ◌^◌, true, false, List, get_or, is_some, Some, None, Option, sym, refl, arith}
 use Rattle.tasks.specs.declared.task.Candidate.{Candidate}
 use Rattle.tasks.specs.Numbers.{sum_below}
 use Rattle.tasks.specs.Sets.{holds}
 use Rattle.tasks.proofs.Ranges.{sum_next}
 use Rattle.costs.specs.Folds.{no_task}
 use Rattle.law.specs.Held.{has}
-use Rattle.plan.specs.Ids.{Found, every_below, bit_if_in}
+use Rattle.plan.specs.Ids.{Found, bit_if_in}
 
 pub found_is : (id : ℕ) (cs : List Candidate) (o : Option ℕ) → Found id cs o → is_some o ≡ has id cs
 found_is id cs None h = sym h
 found_is id cs (Some i) h = sym h.0
-
-module _ (test : ℕ → Bool) where
-  pub every_none : every_below 0 test ≡ true
-  unfolding every_below
-  every_none = refl
-
-  pub every_next : (i : ℕ) → every_below i test ≡ true → test i ≡ true → every_below (i + 1) test ≡ true
-  unfolding every_below
-  every_next i h e = rw (add-one, h, e) refl
-
-  and_false : (b : Bool) → (b && false) ≡ false
-  and_false true = refl
-  and_false false = refl
-
-  pub every_fails : (n i : ℕ) → i < n → test i ≡ false → every_below n test ≡ false
-  unfolding every_below
-  every_fails zero i l e = absurd (omega arith)
-  every_fails (suc n) i l e = elim (cases_lt i n) [
-    | inl h ↦ rw (every_fails n i h e) refl
-    | inr h ↦ let same : i ≡ n = omega arith in rw (← same, e) (and_false (every_below i test))
-  ]
 
 module _ (ids : ℕ) (cs : List Candidate) where
   pub bit_in : (i word bit : ℕ) → holds ids (get_or cs i no_task).id ≡ true → bit ≡ 2 ^ i → word ≡ sum_below i (bit_if_in ids cs)

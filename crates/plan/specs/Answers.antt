@@ -16,6 +16,17 @@ abbrev pub answered : {A : Type 0} → (Outcome → A) → Result Outcome Fault 
 answered f (Ok o) = Ok (f o)
 answered f (Err e) = Err e
 
+-- what a step of its own answer tells as an outcome
+abbrev pub told : {A : Type 0} → (A → Outcome) → Result A Fault → Result Outcome Fault
+told f (Ok a) = Ok (f a)
+told f (Err e) = Err e
+
+abbrev pub advanced : Progress → Outcome
+advanced p = Advanced p.count p.finished
+
+abbrev pub reported_outcome : Reported → Outcome
+reported_outcome r = ReportedOutcome r.bytes r.first r.second
+
 -- nothing but that it is done
 abbrev pub done : Outcome → Unit {0}
 done o = tt

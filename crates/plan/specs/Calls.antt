@@ -25,3 +25,7 @@ module _ {T C : Type 0} where
     pub test : after.test ≡ before.test
     pub cost : after.cost ≡ before.cost
     pub same : IfErr answer (λ _. Unchanged before after old new)
+
+  -- a command that writes nothing is obeyed whatever the buffer holds
+  abbrev pub Served : {V : Type 0} → Meaning V → Command → Plan T C → Plan T C → Result Outcome Fault → Type 0
+  Served w command before after answer = (b : List ℕ) → Obeyed w command before after b b answer

@@ -1,5 +1,6 @@
 -- Ids among the held tasks.
-use Rattle.std.specs.Prelude.{◌≡◌, ℕ, zero, suc, ◌^◌, ◌<◌, Bool, true, false, cond, not, ◌&&◌, ◌||◌, List, [], ◌∷◌, length, Some, None, Option, ◌==◌, nat_lt, slice_index_or}
+use Rattle.std.specs.Prelude.{◌≡◌, ℕ, suc, ◌^◌, ◌<◌, Bool, true, false, cond, not, ◌||◌, List, [], ◌∷◌, length, Some, None, Option, ◌==◌, nat_lt, slice_index_or}
+use Rattle.std.specs.List.{list_all, range_with_len}
 use Rattle.tasks.specs.Numbers.{sum_below}
 use Rattle.tasks.specs.Sets.{holds}
 use Rattle.tasks.specs.declared.task.Candidate.{Candidate}
@@ -21,18 +22,13 @@ abbrev pub rank : ℕ → List Candidate → ℕ
 rank id [] = 0
 rank id (t ∷ ts) = cond (nat_lt id t.id) 0 (suc (rank id ts))
 
--- every number below n passes the test
-unfoldable pub every_below : ℕ → (ℕ → Bool) → Bool
-every_below zero test = true
-every_below (suc n) test = every_below n test && test n
-
 -- an id that is in a set, which is the word of its ids, is held
 abbrev pub held_if_in : ℕ → List Candidate → ℕ → Bool
 held_if_in ids tasks id = not (holds ids id) || has id tasks
 
 -- every id in a set is held
 abbrev pub all_held : ℕ → List Candidate → Bool
-all_held ids tasks = every_below 64 (held_if_in ids tasks)
+all_held ids tasks = list_all (held_if_in ids tasks) (range_with_len 0 64)
 
 -- the bit of a position whose task has its id in a set, else 0
 abbrev pub bit_if_in : ℕ → List Candidate → ℕ → ℕ

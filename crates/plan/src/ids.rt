@@ -18,12 +18,7 @@ fn held_if_in(tasks: &[Task], ids: TaskSet, id: u8) -> bool
 pub(crate) fn are_held(tasks: &[Task], ids: TaskSet) -> bool
     ensures { result ≡ all_held ids.word (map plain tasks.now) }
 {
-    for id in 0..64 {
-        if !held_if_in(tasks, ids, id) {
-            return false;
-        }
-    }
-    true
+    (0..64).all(|id| held_if_in(tasks, ids, id))
 }
 
 // The positions of the tasks whose ids are in a set.

@@ -10,12 +10,12 @@ use tasks::list::TaskList;
 mod add;
 mod apply;
 mod ask;
+mod best;
 mod calls;
 mod drop;
 mod listing;
 mod load;
 mod make;
-mod progress;
 mod report;
 mod seek;
 

@@ -1,24 +1,25 @@
 // Adding a task.
-ghost use Rattle.std.specs.Prelude.{◌≡◌, ℕ, false, List};
+ghost use Rattle.std.specs.Prelude.{◌≡◌, false};
 ghost use Rattle.law.specs.declared.command.Command.TheVariants.{Add};
+ghost use Rattle.law.specs.declared.command.Outcome.TheVariants.{Done};
 ghost use Rattle.law.specs.Obey.{is_searching};
-ghost use Rattle.plan.specs.Calls.{Obeyed};
+ghost use Rattle.plan.specs.Answers.{told};
+ghost use Rattle.plan.specs.Calls.{Served};
 ghost use Rattle.plan.specs.Model.{model, means};
 
 use super::Plan;
-use crate::held::{find, with_task};
+use crate::held::{find, insert_task};
 use crate::state::State;
 use costs::cost::Cost;
-use law::command::Outcome;
 use response::test::ResponseTest;
 use tasks::fault::{Fault, PlanFault, TaskFault};
 use tasks::task::Candidate;
 
 impl<T: ResponseTest + Drop, C: Cost + Drop> Plan<T, C> {
     // Takes one task more.
-    pub(crate) fn add_task(&mut self, candidate: Candidate) -> Result<Outcome, Fault>
+    pub(crate) fn add_task(&mut self, candidate: Candidate) -> Result<(), Fault>
         requires { is_searching (model self.old).stage ≡ false }
-        ensures { (b : List ℕ) → Obeyed (means T.Admission T.ResponseTest.own C.Cost self.old) (Add candidate) self.old self.new b b result }
+        ensures { Served (means T.Admission T.ResponseTest.own C.Cost self.old) (Add candidate) self.old self.new (told (λ _. Done) result) }
     {
         let task = candidate.check(0)?;
         if !self.test.admits(task.timing()) {
@@ -31,8 +32,8 @@ impl<T: ResponseTest + Drop, C: Cost + Drop> Plan<T, C> {
         if held.len() >= 16 {
             return Err(Fault::Plan(PlanFault::Full));
         }
-        self.tasks = with_task(&self.tasks, task);
+        insert_task(&mut self.tasks, task);
         self.state = State::Open;
-        Ok(Outcome::Done)
+        Ok(())
     }
 }

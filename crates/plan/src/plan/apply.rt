@@ -13,7 +13,7 @@ use tasks::fault::{Fault, PlanFault};
 
 impl<T: ResponseTest + Drop, C: Cost + Drop> Plan<T, C> {
     // Matches the state together with the command.
-    fn act(&mut self, command: Command, out: &mut [u8]) -> Result<Outcome, Fault>
+    pub(crate) fn act(&mut self, command: Command, out: &mut [u8]) -> Result<Outcome, Fault>
         ensures { Obeyed (means T.Admission T.ResponseTest.own C.Cost self.old) command.entry self.old self.new out.old out.new result }
     {
         match (self.state, command) {
@@ -24,15 +24,27 @@ impl<T: ResponseTest + Drop, C: Cost + Drop> Plan<T, C> {
             (State::Open, Command::Advance(_) | Command::Stop | Command::Report) => {
                 Err(Fault::Plan(PlanFault::Open))
             }
-            (State::Open | State::Finished, Command::Load(file)) => self.replace_tasks(file),
-            (State::Open | State::Finished, Command::Add(candidate)) => self.add_task(candidate),
-            (State::Open | State::Finished, Command::Drop(id)) => self.drop_task(id),
-            (State::Open | State::Finished, Command::Start) => self.begin_search(),
-            (State::Searching, Command::Advance(count)) => self.examine(count),
-            (State::Finished, Command::Advance(count)) => self.rest(count),
-            (State::Searching | State::Finished, Command::Stop) => self.end_search(),
+            (State::Open | State::Finished, Command::Load(file)) => {
+                self.replace_tasks(file).map(|()| Outcome::Done)
+            }
+            (State::Open | State::Finished, Command::Add(candidate)) => {
+                self.add_task(candidate).map(|()| Outcome::Done)
+            }
+            (State::Open | State::Finished, Command::Drop(id)) => {
+                self.drop_task(id).map(|()| Outcome::Done)
+            }
+            (State::Open | State::Finished, Command::Start) => {
+                self.begin_search().map(|()| Outcome::Started)
+            }
+            (State::Searching, Command::Advance(count)) => {
+                self.examine(count).map(Outcome::from)
+            }
+            (State::Finished, Command::Advance(count)) => self.rest(count).map(Outcome::from),
+            (State::Searching | State::Finished, Command::Stop) => {
+                self.end_search().map(|()| Outcome::Done)
+            }
             (State::Searching, Command::Report) => Err(Fault::Plan(PlanFault::Unfinished)),
-            (State::Finished, Command::Report) => self.write_report(out),
+            (State::Finished, Command::Report) => self.write_report(out).map(Outcome::from),
         }
     }
 

@@ -20,9 +20,7 @@ impl<T: ResponseTest + Drop, C: Cost + Drop> Plan<T, C> {
     {
         let held = self.tasks.as_slice();
         let ids = TaskSet { word: above };
-        let Some(position) = find(held, id) else {
-            return Err(Fault::Plan(PlanFault::NotHeld));
-        };
+        let position = find(held, id).ok_or(PlanFault::NotHeld)?;
         if ids.contains(id as usize) {
             return Err(Fault::Plan(PlanFault::AboveItself));
         }

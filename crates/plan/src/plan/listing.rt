@@ -5,7 +5,6 @@ ghost use Rattle.plan.specs.Listing.{listing as listing_text, listed};
 ghost use Rattle.plan.specs.Model.{model, means};
 
 use super::Plan;
-use crate::levels::levels_of;
 use crate::state::State;
 use costs::cost::Cost;
 use response::test::ResponseTest;
@@ -18,22 +17,14 @@ impl<T: ResponseTest + Drop, C: Cost + Drop> Plan<T, C> {
         requires { self.now.state ≡ State.Finished }
         ensures { (result, out.new) ≡ delivered 512 (listing_text (means T.Admission T.ResponseTest.own C.Cost self.now) (model self.now)) out.old }
     {
-        let best = self.search.best();
-        let levels = levels_of(self.tasks.as_slice(), &best);
-        let cost = self
-            .cost
-            .shown(self.search.best_cost(&self.cost, &self.tasks));
-        listing(&levels[0..best.level()], cost, out)
+        listing(&self.best_levels(), self.best_numbers(), out)
     }
 
     // Writes the listing of a finished plan into at least 512 bytes, and returns the count of bytes written.
     pub fn listing(&self, out: &mut [u8]) -> Result<usize, Fault>
         ensures { (result, out.new) ≡ listed (means T.Admission T.ResponseTest.own C.Cost self.now) (model self.now) out.old }
     {
-        match self.state {
-            State::Open => Err(Fault::Plan(PlanFault::Open)),
-            State::Searching => Err(Fault::Plan(PlanFault::Unfinished)),
-            State::Finished => self.write_listing(out),
-        }
+        self.state.must_be_finished()?;
+        self.write_listing(out)
     }
 }

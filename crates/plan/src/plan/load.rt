@@ -1,14 +1,15 @@
 // Loading a table.
-ghost use Rattle.std.specs.Prelude.{◌≡◌, ℕ, false, List};
+ghost use Rattle.std.specs.Prelude.{◌≡◌, false};
 ghost use Rattle.law.specs.declared.command.Command.TheVariants.{Load};
+ghost use Rattle.law.specs.declared.command.Outcome.TheVariants.{Done};
 ghost use Rattle.law.specs.Obey.{is_searching};
-ghost use Rattle.plan.specs.Calls.{Obeyed};
+ghost use Rattle.plan.specs.Answers.{told};
+ghost use Rattle.plan.specs.Calls.{Served};
 ghost use Rattle.plan.specs.Model.{model, means};
 
 use super::Plan;
 use crate::state::State;
 use costs::cost::Cost;
-use law::command::Outcome;
 use response::test::ResponseTest;
 use tables::table::decode;
 use tasks::fault::Fault;
@@ -27,13 +28,12 @@ impl<T: ResponseTest + Drop, C: Cost + Drop> Plan<T, C> {
     }
 
     // Replaces all tasks by those of a table, or none.
-    pub(crate) fn replace_tasks(&mut self, file: &[u8]) -> Result<Outcome, Fault>
+    pub(crate) fn replace_tasks(&mut self, file: &[u8]) -> Result<(), Fault>
         requires { is_searching (model self.old).stage ≡ false }
-        ensures { (b : List ℕ) → Obeyed (means T.Admission T.ResponseTest.own C.Cost self.old) (Load file.entry) self.old self.new b b result }
+        ensures { Served (means T.Admission T.ResponseTest.own C.Cost self.old) (Load file.entry) self.old self.new (told (λ _. Done) result) }
     {
-        let tasks = decode(&self.test, self.codes(), file)?;
-        self.tasks = tasks;
+        self.tasks = decode(&self.test, self.codes(), file)?;
         self.state = State::Open;
-        Ok(Outcome::Done)
+        Ok(())
     }
 }

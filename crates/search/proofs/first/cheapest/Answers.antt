@@ -24,7 +24,7 @@ loop-position-init g c =
     let costs = priced (g.C.Cost.prices c.args.cost.now) held in
     let slice = c.as_slice-held in
     let size = count_plain (items l) slice.result.now slice.ensures.items in
-    let few = slice.ensures.len in
+    let few = slice.ensures.few in
     (tt, λ lower e. sym (ap (cheapest n answer costs lower) (ap (lacking_from n lower) (sym size) ∙ lacking_none n lower)))
 
 pub loop-position-preserved-in-Some : goal.loop-position-preserved-in-Some
@@ -36,7 +36,7 @@ loop-position-preserved-in-Some g c =
     let costs = priced (g.C.Cost.prices c.args.cost.now) held in
     let slice = c.as_slice-held in
     let size = count_plain (items l) slice.result.now slice.ensures.items in
-    let few = slice.ensures.len in
+    let few = slice.ensures.few in
     let i = c.loop-position.position in
     let w = c.args.unplaced.word in
     let inv = c.loop-position.invariant in
@@ -59,7 +59,7 @@ loop-position-preserved-in_default g c =
     let costs = priced (g.C.Cost.prices c.args.cost.now) held in
     let slice = c.as_slice-held in
     let size = count_plain (items l) slice.result.now slice.ensures.items in
-    let few = slice.ensures.len in
+    let few = slice.ensures.few in
     let i = c.loop-position.position in
     let w = c.args.unplaced.word in
     let inv = c.loop-position.invariant in
@@ -82,7 +82,7 @@ loop-position-preserved g c =
     let costs = priced (g.C.Cost.prices c.args.cost.now) held in
     let slice = c.as_slice-held in
     let size = count_plain (items l) slice.result.now slice.ensures.items in
-    let few = slice.ensures.len in
+    let few = slice.ensures.few in
     let inv = c.loop-position.invariant in
     let le = c.loop-position.auto.position in (
       inv.0,

@@ -22,7 +22,7 @@ overflow_cast-order g c =
     let l = c.args.tasks.now in
     let size = count_plain (items l) c.as_slice-held.result.now c.as_slice-held.ensures.items in
     let low : c.in_ok-pick.pick.position < 16
-    = omega (arith, c.in_ok-pick.ensures.among.low, c.as_slice-held.ensures.len, l.few) in
+    = omega (arith, c.in_ok-pick.ensures.among.low, c.as_slice-held.ensures.few) in
     search rules
 
 pub offset_bounds-times-pick : goal.offset_bounds-times-pick
@@ -30,14 +30,14 @@ offset_bounds-times-pick g c =
     let l = c.args.tasks.now in
     let size = count_plain (items l) c.as_slice-held.result.now c.as_slice-held.ensures.items in
     let low : c.in_ok-pick.pick.position < 16
-    = omega (arith, c.in_ok-pick.ensures.among.low, c.as_slice-held.ensures.len, l.few) in
+    = omega (arith, c.in_ok-pick.ensures.among.low, c.as_slice-held.ensures.few) in
     search rules
 
 pub bounds-times-pick : goal.bounds-times-pick
 bounds-times-pick g c =
     let l = c.args.tasks.now in
     let size = count_plain (items l) c.as_slice-held.result.now c.as_slice-held.ensures.items in
-    omega (arith, c.in_ok-pick.ensures.among.low, c.as_slice-held.ensures.len, l.few)
+    omega (arith, c.in_ok-pick.ensures.among.low, c.as_slice-held.ensures.few)
 
 pub loop-level-init : goal.loop-level-init
 loop-level-init g c =
@@ -48,10 +48,10 @@ loop-level-init g c =
     let costs = priced (g.C.Cost.prices c.args.cost.now) held in
     let slice = c.as_slice-held in
     let size = count_plain (items l) slice.result.now slice.ensures.items in
-    let few = slice.ensures.len in
+    let few = slice.ensures.few in
     let blank : List ℕ = replicate 16 0 in
     let w = c.first-placed.result.word in
-    let bits : (j : ℕ) → holds w j ≡ ltb j n = subst (λ k. (j : ℕ) → holds w j ≡ ltb j k) (sym size) (c.first-placed.ensures.below (omega (arith, l.few, slice.ensures.len))) in
+    let bits : (j : ℕ) → holds w j ≡ ltb j n = subst (λ k. (j : ℕ) → holds w j ≡ ltb j k) (sym size) (c.first-placed.ensures.below (omega (arith, slice.ensures.few))) in
     let none = sym (lower_none n blank) in
     subst (λ k. Filled n answer costs k blank blank w) size (
       refl,
@@ -71,7 +71,7 @@ loop-level-preserved g c =
     let costs = priced (g.C.Cost.prices c.args.cost.now) held in
     let slice = c.as_slice-held in
     let size = count_plain (items l) slice.result.now slice.ensures.items in
-    let few = slice.ensures.len in
+    let few = slice.ensures.few in
     let k = c.loop-level.level in
     let pos = c.loop-level-test.true in
     let le = c.loop-level.auto.level in
@@ -105,7 +105,7 @@ returns-in_err-pick g c =
     let costs = priced (g.C.Cost.prices c.args.cost.now) held in
     let slice = c.as_slice-held in
     let size = count_plain (items l) slice.result.now slice.ensures.items in
-    let few = slice.ensures.len in
+    let few = slice.ensures.few in
     let inv = c.loop-level.invariant in
     let v = lower n c.loop-level.level c.loop-level.order in
     record {
@@ -122,12 +122,12 @@ invariant_of-result g c =
     let n = length (plains l) in
     let slice = c.as_slice-held in
     let size = count_plain (items l) slice.result.now slice.ensures.items in
-    let few = slice.ensures.len in
+    let few = slice.ensures.few in
     let order = c.loop-level.order in
     let inv = c.loop-level.invariant in
     let w = c.first-placed.result.word in
-    let bits : (j : ℕ) → holds w j ≡ ltb j n = subst (λ k. (j : ℕ) → holds w j ≡ ltb j k) (sym size) (c.first-placed.ensures.below (omega (arith, l.few, slice.ensures.len))) in
-    let few : n ≤ 16 = omega (arith, l.few, slice.ensures.len) in
+    let bits : (j : ℕ) → holds w j ≡ ltb j n = subst (λ k. (j : ℕ) → holds w j ≡ ltb j k) (sym size) (c.first-placed.ensures.below (omega (arith, slice.ensures.few))) in
+    let few : n ≤ 16 = omega (arith, slice.ensures.few) in
     let end : c.loop-level.level ≡ 0 = omega arith in
     let whole : lower n c.loop-level.level order ≡ take n order = ap (λ k. lower n k order) end ∙ ap (λ k. take k order) (omega arith) in
     let front = subst (Front n) whole inv.3 in
@@ -148,13 +148,13 @@ returns g c =
     let costs = priced (g.C.Cost.prices c.args.cost.now) held in
     let slice = c.as_slice-held in
     let size = count_plain (items l) slice.result.now slice.ensures.items in
-    let few = slice.ensures.len in
+    let few = slice.ensures.few in
     let order = c.loop-level.order in
     let times = c.loop-level.times in
     let inv = c.loop-level.invariant in
     let w = c.first-placed.result.word in
-    let bits : (j : ℕ) → holds w j ≡ ltb j n = subst (λ k. (j : ℕ) → holds w j ≡ ltb j k) (sym size) (c.first-placed.ensures.below (omega (arith, l.few, slice.ensures.len))) in
-    let few : n ≤ 16 = omega (arith, l.few, slice.ensures.len) in
+    let bits : (j : ℕ) → holds w j ≡ ltb j n = subst (λ k. (j : ℕ) → holds w j ≡ ltb j k) (sym size) (c.first-placed.ensures.below (omega (arith, slice.ensures.few))) in
+    let few : n ≤ 16 = omega (arith, slice.ensures.few) in
     let end : c.loop-level.level ≡ 0 = omega arith in
     let whole : lower n c.loop-level.level order ≡ take n order = ap (λ k. lower n k order) end ∙ ap (λ k. take k order) (omega arith) in
     let front = subst (Front n) whole inv.3 in

@@ -10,7 +10,7 @@ bounds-held-pick g c =
 pub offset_bounds-held-pick : goal.offset_bounds-held-pick
 offset_bounds-held-pick g c =
     let size = count_plain (items c.args.tasks.now) c.as_slice-held.result.now c.as_slice-held.ensures.items in
-    let low : c.args.pick.position < 16 = omega (arith, c.requires, c.as_slice-held.ensures.len, c.args.tasks.now.few) in
+    let low : c.args.pick.position < 16 = omega (arith, c.requires, c.as_slice-held.ensures.few) in
     search rules
 
 pub returns : goal.returns

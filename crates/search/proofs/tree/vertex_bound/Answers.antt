@@ -7,6 +7,6 @@ use Rattle.search.proofs.tree.vertex_bound.Goals as goal
 pub returns : goal.returns
 returns c =
     let held = c.as_slice-held in
-    let low : length held.result.now < 17 = omega (arith, held.ensures.len, c.args.tasks.now.few) in
+    let low : length held.result.now < 17 = omega (arith, held.ensures.few) in
     let size = count_plain (items c.args.tasks.now) held.result.now held.ensures.items in
     search (rules, tabulated)

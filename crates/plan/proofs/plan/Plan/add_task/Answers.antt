@@ -26,8 +26,8 @@ returns g c =
     let p = c.args.self.now in
     let w = means g.T.Admission g.T.ResponseTest g.C.Cost p in
     let held : plains p.tasks ≡ map plain c.as_slice-held.result.now = ap (map plain) (sym c.as_slice-held.ensures.items) in
-    let more : plains c.with_task-self.result ≡ inserted c.args.candidate (plains p.tasks)
-    = c.with_task-self.ensures ∙ ap (λ t. inserted t (plains p.tasks)) c.in_ok-task.ensures.1 in
+    let more : plains c.insert_task.new.list ≡ inserted c.args.candidate (plains p.tasks)
+    = c.insert_task.ensures ∙ ap (λ t. inserted t (plains p.tasks)) c.in_ok-task.ensures.1 in
     λ b. accepted w (Add c.args.candidate) p b _ Done
     (add_passes w (model p) b c.requires c.args.candidate c.in_ok-task.task c.timing.result c.as_slice-held.result.now
     c.find.result c.admits.result c.is_some.result c.in_ok-task.ensures c.timing.ensures c.admits.ensures c.if-not-admits.false

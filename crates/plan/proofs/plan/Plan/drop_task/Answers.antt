@@ -1,4 +1,4 @@
-use Rattle.std.proofs.Common.{◌≡◌, true, sym, refl, ap, ◌∙◌, arith}
+use Rattle.std.proofs.Common.{◌≡◌, true, length, sym, refl, ap, ◌∙◌, arith}
 use Rattle.std.specs.List.{remove}
 use Rattle.std.proofs.lemmas.List.{length-map}
 use Rattle.tasks.specs.Lists.{plains}
@@ -13,9 +13,10 @@ use Rattle.plan.proofs.Edits.{without_at}
 use Rattle.plan.proofs.Replies.{accepted, drop_passes}
 use Rattle.plan.proofs.plan.Plan.drop_task.Goals as goal
 
-pub without_task-self-requires : goal.without_task-self-requires
-without_task-self-requires g c =
-    omega (arith, c.in-Some.ensures.2, c.as_slice.ensures.len, length-map c.as_slice.result.now plain)
+pub remove_task-requires : goal.remove_task-requires
+remove_task-requires g c =
+    let at = rw c.in_ok-at.ensures.ok_part at c.find.ensures in
+    omega (arith, at.2, ap length c.as_slice.ensures.items, length-map c.as_slice.result.now plain)
 
 pub returns : goal.returns
 returns g c =
@@ -23,8 +24,9 @@ returns g c =
     let w = means g.T.Admission g.T.ResponseTest g.C.Cost p in
     let cs = plains p.tasks in
     let id = c.args.id in
-    let known : has id cs ≡ true = rw c.as_slice.ensures.items at c.in-Some.ensures.0 in
-    let at : c.in-Some.at ≡ place id cs = rw c.as_slice.ensures.items at c.in-Some.ensures.1 in
-    let left : plains c.without_task-self.result ≡ without id cs
-    = c.without_task-self.ensures ∙ ap (remove cs) at ∙ sym (without_at id cs known) in
+    let found = rw c.in_ok-at.ensures.ok_part at c.find.ensures in
+    let known : has id cs ≡ true = rw c.as_slice.ensures.items at found.0 in
+    let at : c.in_ok-at.at ≡ place id cs = rw c.as_slice.ensures.items at found.1 in
+    let left : plains c.remove_task.new.list ≡ without id cs
+    = c.remove_task.ensures ∙ ap (remove cs) at ∙ sym (without_at id cs known) in
     λ b. accepted w (Drop id) p b _ Done (drop_passes w (model p) b c.requires id known) (ap (λ ts. reply Done (opened ts) b) left) refl refl

@@ -2,13 +2,8 @@ use Rattle.std.proofs.Common.{◌≤◌, length, arith, rules}
 use Rattle.tasks.specs.Lists.{plains}
 use Rattle.tasks.specs.Timing.{timings}
 use Rattle.search.specs.Model.{state, priced}
-use Rattle.plan.proofs.Searches.{during, stepped_few}
+use Rattle.plan.proofs.Searches.{stepped_few}
 use Rattle.plan.proofs.plan.Plan.examine.Goals as goal
-
-pub advance-progress-requires : goal.advance-progress-requires
-advance-progress-requires g c =
-    let p = c.args.self.now in
-    during p.state (length (plains p.tasks)) p.search.size c.requires p.matched
 
 pub overflow_cast-result : goal.overflow_cast-result
 overflow_cast-result g c =

@@ -19,7 +19,7 @@ loop-position-init g c =
     (rw (c.none-sum.ensures, laws.covers_none) (omega arith), c.none-sum.ensures ∙ sym (join_none p _), λ i h. absurd (omega arith))
 
 pub add_task-sum-requires : goal.add_task-sum-requires
-add_task-sum-requires g c = omega (arith, c.loop-position.invariant.0, c.as_slice-held.ensures.len, c.args.tasks.now.few)
+add_task-sum-requires g c = omega (arith, c.loop-position.invariant.0, c.as_slice-held.ensures.few)
 
 pub loop-position-preserved : goal.loop-position-preserved
 loop-position-preserved g c =

@@ -12,7 +12,7 @@ pub begin-requires : goal.begin-requires
 begin-requires g c =
     let slice = c.as_slice-held in
     let size = count_plain (items c.args.tasks.now) slice.result.now slice.ensures.items in (
-      omega (arith, slice.ensures.len, c.args.tasks.now.few),
+      omega (arith, slice.ensures.few),
       subst (λ n. Order n (ranks c.in-Some.first)) size c.in-Some.ensures.order,
     )
 
