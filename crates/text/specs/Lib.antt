@@ -1,4 +1,3 @@
-pub mod Pens
 pub mod Lines
 pub mod Levels
 pub mod Texts

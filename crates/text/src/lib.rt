@@ -8,11 +8,14 @@ ghost use Rattle.text.specs.Examples.{Examples};
 ghost use Rattle.text.specs.Levels.{numbers};
 ghost use Rattle.text.specs.Texts.{listing_text, refusal_line};
 
-use pen::Pen;
-use tasks::fault::{Fault, PlanFault};
+use arrayvec::ArrayString;
+use buffer::deliver;
+use lines::push_line;
+use tasks::fault::Fault;
 
+mod buffer;
 mod level;
-mod pen;
+mod lines;
 pub mod report;
 
 pub use level::Level;
@@ -28,14 +31,11 @@ pub fn refusal_line(fault: Fault, out: &mut [u8]) -> Result<usize, Fault>
     ensures fits { length (refusal_line (number_of fault) (record_of fault)) ≤ 32 }
     ensures written { (result, out.new) ≡ delivered 32 (refusal_line (number_of fault) (record_of fault)) out.old }
 {
-    let number = fault.number();
-    let record = fault.record();
-    if out.len() < REFUSAL_LEN {
-        return Err(Fault::Plan(PlanFault::Buffer));
-    }
-    let mut pen = Pen { out, at: 0 };
-    pen.line(&[("refused ", number as u64), (" record ", record as u64)]);
-    Ok(pen.at)
+    let number = u64::from(fault.number());
+    let record = u64::from(fault.record());
+    let mut text = ArrayString::<REFUSAL_LEN>::new();
+    push_line(&mut text, &[("refused ", number), (" record ", record)]);
+    deliver(text.as_bytes(), REFUSAL_LEN, out)
 }
 
 // Writes a line for each level and the line of the cost, and returns their length.
@@ -44,19 +44,14 @@ pub fn listing(levels: &[Level], cost: (u64, u64), out: &mut [u8]) -> Result<usi
     ensures fits { length (listing_text (map numbers levels.now) cost) ≤ 512 }
     ensures written { (result, out.new) ≡ delivered 512 (listing_text (map numbers levels.now) cost) out.old }
 {
-    if out.len() < LISTING_LEN {
-        return Err(Fault::Plan(PlanFault::Buffer));
-    }
-    let mut pen = Pen { out, at: 0 };
+    let mut text = ArrayString::<LISTING_LEN>::new();
     for (i, level) in levels.iter().enumerate() {
-        pen.line(&[
-            ("", i as u64 + 1),
-            (" ", level.id as u64),
-            (" ", level.response as u64),
-        ]);
+        let id = u64::from(level.id);
+        let response = u64::from(level.response);
+        push_line(&mut text, &[("", i as u64 + 1), (" ", id), (" ", response)]);
     }
-    pen.line(&[("cost ", cost.0), (" ", cost.1)]);
-    Ok(pen.at)
+    push_line(&mut text, &[("cost ", cost.0), (" ", cost.1)]);
+    deliver(text.as_bytes(), LISTING_LEN, out)
 }
 
 // The worked examples hold of the definitions.

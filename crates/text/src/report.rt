@@ -3,19 +3,19 @@ ghost use Rattle.std.specs.Prelude.{◌≡◌, ◌≤◌, map, length};
 ghost use Rattle.tasks.specs.Buffers.{delivered};
 ghost use Rattle.text.specs.Levels.{numbers};
 ghost use Rattle.text.specs.Reports.{level_record, report_bytes};
-ghost use Rattle.text.specs.Pens.{Room, Wrote};
 
+use crate::buffer::deliver;
 use crate::level::Level;
-use crate::pen::Pen;
-use tasks::fault::{Fault, PlanFault};
+use arrayvec::ArrayVec;
+use tasks::fault::Fault;
 
-// Writes the four bytes of a level.
-fn pack(pen: &mut Pen, level: &Level)
-    requires { Room pen.old (level_record (numbers level.now)) }
-    ensures { Wrote pen.old (level_record (numbers level.now)) pen.new }
+// The four bytes of a level.
+fn packed(level: &Level) -> [u8; 4]
+    ensures { result ≡ level_record (numbers level.now) }
 {
-    let word = level.id as u64 * 0x0400_0000 + level.response as u64;
-    pen.bytes(&word.to_be_bytes()[4..8]);
+    let word = u64::from(level.id) * 0x0400_0000 + u64::from(level.response);
+    let [_, _, _, _, first, second, third, fourth] = word.to_be_bytes();
+    [first, second, third, fourth]
 }
 
 // Writes four bytes for each level, and returns their count.
@@ -23,12 +23,9 @@ pub fn report(levels: &[Level], out: &mut [u8]) -> Result<usize, Fault>
     requires { length levels.now ≤ 16 }
     ensures { (result, out.new) ≡ delivered (length (report_bytes (map numbers levels.now))) (report_bytes (map numbers levels.now)) out.old }
 {
-    if out.len() < 4 * levels.len() {
-        return Err(Fault::Plan(PlanFault::Buffer));
-    }
-    let mut pen = Pen { out, at: 0 };
+    let mut bytes = ArrayVec::<u8, 64>::new();
     for level in levels {
-        pack(&mut pen, level);
+        bytes.try_extend_from_slice(&packed(level)).unwrap();
     }
-    Ok(pen.at)
+    deliver(&bytes, 4 * levels.len(), out)
 }
