@@ -1,22 +1,8 @@
--- How long the texts are, and one more line of a listing.
-use Rattle.std.proofs.Common.{◌≡◌, ℕ, ◌+◌, ◌^◌, ◌<◌, ◌≤◌, List, [], ◌∷◌, ◌++◌, map, length, get_or, take, decimal, append_assoc, append-nil, add-zero, add_assoc, one-add, add_comm, arith, length-append}
-use lib.ListN.{length-map}
+-- How long the lines are.
+use Rattle.std.proofs.Common.{ℕ, ◌^◌, ◌<◌, ◌≤◌, length, decimal, arith, length-append}
 use Rattle.std.proofs.lemmas.Fmt.{length-decimal-le}
-use Rattle.std.proofs.lemmas.List.{take_more, length-take-le, map-append}
-use Rattle.text.specs.declared.level.Level.{Level}
-use Rattle.text.specs.Levels.{numbers}
 use Rattle.text.specs.Lines.{line}
-use Rattle.text.specs.Texts.{level_line, level_lines, cost_line, refusal_line}
-
-level_lines_append : (n : ℕ) (ls ms : List (ℕ × ℕ)) → level_lines n (ls ++ ms) ≡ level_lines n ls ++ level_lines (n + length ls) ms
-level_lines_append n [] ms = rw add-zero
-level_lines_append n (l ∷ ls) ms = rw (level_lines_append (n + 1) ls ms, ← append_assoc, add_assoc, one-add)
-
-pub level_lines_more : (ls : List Level) (i : ℕ) (none : Level) → i < length ls
-    → level_lines 1 (map numbers (take (i + 1) ls)) ≡ level_lines 1 (map numbers (take i ls)) ++ level_line (i + 1) (numbers (get_or ls i none))
-level_lines_more ls i none h =
-    let k : length (take i ls) ≡ i = length-take-le i ls (omega arith) in
-    rw (take_more ls i none h, map-append, level_lines_append, length-map, k, append-nil, add_comm)
+use Rattle.text.specs.Texts.{level_line, cost_line, refusal_line}
 
 pub length_level_line : (n id response : ℕ) → n ≤ 16 → id < 2 ^ 8 → response < 2 ^ 32 → length (level_line n (id, response)) ≤ 18
 unfolding line
