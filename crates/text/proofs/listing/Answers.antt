@@ -1,14 +1,14 @@
 use Rattle.std.proofs.Common.{◌≡◌, ◌+◌, ◌≤◌, length, append_assoc, ap, arith, rules, length-append}
 use Rattle.std.specs.Iterator.Adapters.{zip_second}
 use Rattle.std.specs.Slice.Iter.{iter_rest}
-use Rattle.text.proofs.Texts.{length_level_line, length_cost_line}
+use Rattle.text.proofs.Texts.{length_level_line, room_for_level, room_for_cost}
 use Rattle.text.proofs.listing.Goals as goal
 
 pub push_line-requires : goal.push_line-requires
 push_line-requires c =
     let one_left : length (iter_rest (zip_second c.loop-number.number-iterator)) ≡ length (iter_rest (zip_second c.next.new.self)) + 1 = omega (arith, ap length c.in-Some.ensures.steps.1) in
     let few : c.in-Some.number ≤ 16 = omega (arith, c.in-Some.ensures.steps.0.0, c.loop-number.invariant.count) in
-    (search rules, omega (arith, length_level_line c.in-Some.number c.from-id.result c.from-response.result few (omega arith) (omega arith)))
+    (search rules, room_for_level _ _ _ _ (omega arith) few (omega arith) (omega arith))
 
 pub loop-number-preserved : goal.loop-number-preserved
 loop-number-preserved c =
@@ -24,4 +24,4 @@ loop-number-preserved c =
 
 pub push_line-requires-2 : goal.push_line-requires-2
 push_line-requires-2 c =
-    (search rules, omega (arith, length_cost_line c.args.cost.0 c.args.cost.1 (omega arith) (omega arith)))
+    (search rules, room_for_cost _ _ _ (omega arith) (omega arith) (omega arith))
