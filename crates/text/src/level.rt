@@ -1,6 +1,4 @@
-// A level of a reported order.
-
-// The id of the task that holds the level, and its response time.
+// A level of a reported order: the id of the task that holds it, and its response time.
 #[derive(Clone, Copy, Default)]
 pub struct Level {
     pub id: u8,

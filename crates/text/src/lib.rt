@@ -45,10 +45,10 @@ pub fn listing(levels: &[Level], cost: (u64, u64), out: &mut [u8]) -> Result<usi
     ensures written { (result, out.new) ≡ delivered 512 (listing_text (map numbers levels.now) cost) out.old }
 {
     let mut text = ArrayString::<LISTING_LEN>::new();
-    for (i, level) in levels.iter().enumerate() {
+    for (number, level) in (1u64..).zip(levels) {
         let id = u64::from(level.id);
         let response = u64::from(level.response);
-        push_line(&mut text, &[("", i as u64 + 1), (" ", id), (" ", response)]);
+        push_line(&mut text, &[("", number), (" ", id), (" ", response)]);
     }
     push_line(&mut text, &[("cost ", cost.0), (" ", cost.1)]);
     deliver(text.as_bytes(), LISTING_LEN, out)

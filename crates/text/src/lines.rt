@@ -6,6 +6,7 @@ use arrayvec::ArrayString;
 use itoa::Buffer;
 
 // Appends each number in decimal after its label, and then a newline.
+// By pushes, since no clause says that `write!` returns `Ok` where there is room, and no text here may fail.
 pub(crate) fn push_line<const ROOM: usize>(text: &mut ArrayString<ROOM>, parts: &[(&str, u64)])
     requires { length text.old.bytes + length (line (plain parts.now)) ≤ ROOM }
     ensures { text.new.bytes ≡ text.old.bytes ++ line (plain parts.now) }

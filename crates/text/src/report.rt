@@ -9,12 +9,15 @@ use crate::level::Level;
 use arrayvec::ArrayVec;
 use tasks::fault::Fault;
 
+// The bytes of the most levels.
+const REPORT_LEN: usize = 64;
+
 // The four bytes of a level.
 fn packed(level: &Level) -> [u8; 4]
     ensures { result ≡ level_record (numbers level.now) }
 {
     let word = u64::from(level.id) * 0x0400_0000 + u64::from(level.response);
-    let [_, _, _, _, first, second, third, fourth] = word.to_be_bytes();
+    let [.., first, second, third, fourth] = word.to_be_bytes();
     [first, second, third, fourth]
 }
 
@@ -23,7 +26,7 @@ pub fn report(levels: &[Level], out: &mut [u8]) -> Result<usize, Fault>
     requires { length levels.now ≤ 16 }
     ensures { (result, out.new) ≡ delivered (length (report_bytes (map numbers levels.now))) (report_bytes (map numbers levels.now)) out.old }
 {
-    let mut bytes = ArrayVec::<u8, 64>::new();
+    let mut bytes = ArrayVec::<u8, REPORT_LEN>::new();
     for level in levels {
         bytes.try_extend_from_slice(&packed(level)).unwrap();
     }
