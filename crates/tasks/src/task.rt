@@ -22,7 +22,7 @@ pub struct Task {
 }
 
 // The numbers of a task before they are checked.
-#[derive(Clone, Copy)]
+#[derive(Clone, Copy, Debug)]
 pub struct Candidate {
     pub id: u32,
     pub tier: u32,
