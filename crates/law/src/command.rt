@@ -1,7 +1,7 @@
 // What a plan is told, and what it answers.
 use tasks::task::Candidate;
 
-#[derive(Clone, Copy)]
+#[derive(Clone, Copy, Debug)]
 pub enum Command<'a> {
     Load(&'a [u8]),
     Add(Candidate),

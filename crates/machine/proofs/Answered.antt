@@ -1,32 +1,19 @@
 -- An answer of either test is a window of jobs; so it bounds a level of tasks that stand by level.
-use Rattle.std.proofs.Common.{◌≡◌, ℕ, zero, suc, ◌+◌, ◌-◌, ◌*◌, ◌^◌, ◌<◌, ◌≤◌, List, length, Some, sym, ap, ◌∙◌, inl, inr, arith}
-use Rattle.std.proofs.lemmas.Bool.{cases_lt, leb-true, eqb-true, ne_eqb, lt-ltb, le-ltb}
+use Rattle.std.proofs.Common.{◌≡◌, ℕ, zero, suc, ◌+◌, ◌-◌, ◌*◌, ◌^◌, ◌<◌, ◌≤◌, List, length, Some, sym, ap, ◌∙◌, arith}
+use Rattle.std.proofs.lemmas.Bool.{leb-true, eqb-true, ne_eqb, lt-ltb, le-ltb}
 use Rattle.tasks.specs.Numbers.{least, largest, sum_below}
 use Rattle.tasks.specs.declared.task.Timing.{Timing}
 use Rattle.tasks.specs.Timing.{at}
 use Rattle.tasks.proofs.Ranges.{sum_mono, sum_up, least_is, largest_is}
 use Rattle.tasks.proofs.Words.{holds_first}
-use Rattle.response.specs.Tests.{task_load, job_load, demand, section_below, blocking, settled, one_job, one_job_admits, window, window_admits, busy, closes, delay}
-use Rattle.response.specs.Demand.{AllLegal, held_legal, load_held, settled_is, settles}
+use Rattle.response.specs.Tests.{task_load, job_load, demand, section_below, blocking, one_job, one_job_admits, window, window_admits, busy, closes, delay}
+use Rattle.response.specs.Demand.{AllLegal, held_legal, load_held, settled_is}
 use Rattle.response.proofs.Blocking.{section_other}
 use Rattle.response.specs.Jobs.{jobs, ended, closes_at}
 use Rattle.machine.specs.Claims.{KeepsLevels}
 use Rattle.machine.proofs.Levels.{max_at}
 use Rattle.machine.proofs.Windows.{Enough, Window}
 use Rattle.machine.proofs.Bounds.{windows_bound}
-
-module _ (ts : List Timing) (legal : AllLegal ts) (i h : ℕ) where
-  -- a settled window is the least that is enough
-  pub enough_least : (p block limit w x : ℕ) → settled ts h (suc p * (at ts i).execution + block) limit ≡ Some w →
-      1 ≤ (at ts i).execution → Enough (at ts i) (demand ts h) block p x → w ≤ x
-  enough_least p block limit w x e pos enough =
-      let found = settled_is ts legal h (suc p * (at ts i).execution + block) limit w e in
-      elim (cases_lt limit x) [
-        | inl past ↦ omega (arith, found.2)
-        | inr within ↦
-            let s = settles ts legal h (suc p * (at ts i).execution + block) x limit (omega arith) enough.fits within in
-            let same : s.0 ≡ w = cc s.1 in omega (arith, s.2)
-      ]
 
 module _ (ts : List Timing) (legal : AllLegal ts) (i h r : ℕ) where
   pub one_job_window : (at ts i).deadline ≤ (at ts i).period → one_job ts i h ≡ Some r →

@@ -1,11 +1,11 @@
 -- Response times of the two tests are kept.
-use Rattle.std.proofs.Common.{◌≡◌, ℕ, ◌<◌, Bool, List, [], length, get_or, take, None, Option, sym, ◌∙◌, subst, subst₂, inl, inr, arith}
+use Rattle.std.proofs.Common.{◌≡◌, ℕ, ◌<◌, Bool, List, [], length, get_or, take, Option, sym, ◌∙◌, subst, subst₂, inl, inr, arith}
 use lib.ListN.{length-map}
 use Rattle.tasks.specs.declared.task.Timing.{Timing}
 use Rattle.tasks.specs.Timing.{at, Held}
 use Rattle.response.specs.Tests.{Answers, one_job, one_job_admits, window, window_admits}
 use Rattle.orders.specs.Orders.{Order, word}
-use Rattle.orders.proofs.Levels.{timed_from, none_is_not_some}
+use Rattle.orders.proofs.Levels.{timed_from}
 use Rattle.machine.specs.Claims.{levels, KeepsLevel, KeepsLevels, KeepsAnswer, KeepsTimes, Kept, Named}
 use Rattle.machine.proofs.Places.{timed_at, position}
 use Rattle.machine.proofs.Agreement.{Agrees, at_level, one_job_agrees, window_agrees}
@@ -53,7 +53,3 @@ pub level_kept : (admits : Timing → Bool) (answer : Answers) (ts : List Timing
     Named admits answer → Held admits ts → KeepsLevel ts o level answered
 level_kept admits answer ts n o level answered same order l is named held workload r releases e =
     (named_kept admits answer named).at_each_level ts o workload level r held (subst (λ m. Order m o) (sym same) order) releases l (sym is ∙ e)
-
--- nothing is asked of a level without an answer
-pub none_kept : (ts : List Timing) (o : List ℕ) (level : ℕ) → KeepsLevel ts o level None
-none_kept ts o level workload r releases e = absurd (none_is_not_some r e)

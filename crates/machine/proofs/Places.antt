@@ -1,9 +1,9 @@
 -- The places of the tasks of an order.
-use Rattle.std.proofs.Common.{◌≡◌, ℕ, zero, suc, ◌+◌, ◌<◌, ◌≤◌, true, false, ◌||◌, eqb, ltb, List, [], ◌∷◌, ◌++◌, length, get_or, take, Some, sym, refl, ap, ◌∙◌, inl, inr, append_assoc, append-nil, add-one, arith}
+use Rattle.std.proofs.Common.{◌≡◌, ℕ, zero, suc, ◌<◌, ◌≤◌, true, false, ◌||◌, eqb, ltb, List, [], ◌∷◌, ◌++◌, length, get_or, take, Some, sym, refl, ap, ◌∙◌, inl, inr, append_assoc, append-nil, arith}
 use Rattle.std.proofs.lemmas.Bool.{cases_lt, cases_eq, lt-ltb, le-ltb, eq-eqb, ne_eqb}
 use Rattle.tasks.specs.Sets.{holds}
-use Rattle.orders.specs.Orders.{Test, Order, word, count, same}
-use Rattle.orders.proofs.Counts.{same_self, same_is, same_other}
+use Rattle.orders.specs.Orders.{Test, Order, word, count}
+use Rattle.orders.proofs.Counts.{same_self, same_is, same_other, count_append}
 use Rattle.orders.proofs.Levels.{Timed}
 use Rattle.orders.proofs.Words.{holds_absent, holds_present, same_bits}
 
@@ -77,6 +77,13 @@ module _ (n : ℕ) (o : List ℕ) (order : Order n o) where
   above_lacks level = holds_absent (take level o) (once_above level)
 
   -- a set that holds just the tasks above a level is their word
+  -- the tasks above a level fit in a set where all do
+  pub above_small : n ≤ 64 → (level i : ℕ) → 0 < count i (take level o) → i < 64
+  above_small few level i some = elim (cases_lt i n) [
+    | inl below ↦ omega arith
+    | inr g ↦ absurd (omega (arith, order.else_none i g, count_take i level o))
+  ]
+
   pub above_word : (level w : ℕ) → ((j : ℕ) → holds w j ≡ ltb 0 (count j (take level o))) → w ≡ word (take level o)
   above_word level w h =
       same_bits w (word (take level o)) (λ j. elim (cases_lt 0 (count j (take level o))) [
@@ -84,25 +91,30 @@ module _ (n : ℕ) (o : List ℕ) (order : Order n o) where
         | inr none ↦ h j ∙ le-ltb 0 (count j (take level o)) none ∙ sym (above_lacks level j (omega arith))
       ])
 
--- ---- one level after another
+-- ---- a set, made of one task after another
 
-count_next : (j level : ℕ) (o : List ℕ) → level < length o →
-    count j (take (suc level) o) ≡ count j (take level o) + same j (get_or o level 0)
-count_next j level [] l = absurd (omega arith)
-count_next j zero (i ∷ o) l = omega arith
-count_next j (suc level) (i ∷ o) l = omega (arith, count_next j level o (omega arith))
+-- it holds exactly the listed tasks, where all of them fit
+abbrev pub IsSetOf : List ℕ → ℕ → Type 0
+IsSetOf ps w = ((i : ℕ) → 0 < count i ps → i < 64) → (j : ℕ) → holds w j ≡ ltb 0 (count j ps)
 
-pub stands_none : (j : ℕ) (o : List ℕ) → holds 0 j ≡ ltb 0 (count j (take 0 o))
-stands_none j o = holds_absent [] (λ i. omega arith) j refl
+pub set_of_none : IsSetOf [] 0
+set_of_none small j = holds_absent [] (λ i. omega arith) j refl
 
-pub stands_next : (j level : ℕ) (o : List ℕ) → level < length o →
-    ltb 0 (count j (take (level + 1) o)) ≡ (eqb j (get_or o level 0) || ltb 0 (count j (take level o)))
-stands_next j level o l =
-    ap (λ n. ltb 0 (count j (take n o))) (add-one level) ∙ elim (cases_eq j (get_or o level 0)) [
+stands_more : (j p : ℕ) (ps : List ℕ) → ltb 0 (count j (ps ++ (p ∷ []))) ≡ (eqb j p || ltb 0 (count j ps))
+stands_more j p ps =
+    let both = count_append j ps (p ∷ []) in
+    elim (cases_eq j p) [
       | inl here ↦
-          lt-ltb 0 (count j (take (suc level) o)) (omega (arith, count_next j level o l, same_is j (get_or o level 0) here))
-          ∙ sym (ap (λ b. b || ltb 0 (count j (take level o))) (eq-eqb j (get_or o level 0) here))
+          lt-ltb 0 (count j (ps ++ (p ∷ []))) (omega (arith, same_is j p here))
+          ∙ sym (ap (λ b. b || ltb 0 (count j ps)) (eq-eqb j p here))
       | inr other ↦
-          ap (ltb 0) (omega (arith, count_next j level o l, same_other j (get_or o level 0) other))
-          ∙ sym (ap (λ b. b || ltb 0 (count j (take level o))) (ne_eqb j (get_or o level 0) other))
+          ap (ltb 0) (omega (arith, same_other j p other))
+          ∙ sym (ap (λ b. b || ltb 0 (count j ps)) (ne_eqb j p other))
     ]
+
+pub set_of_more : (ps : List ℕ) (p w v : ℕ) → IsSetOf ps w → (p < 64 → (j : ℕ) → holds v j ≡ (eqb j p || holds w j)) → IsSetOf (ps ++ (p ∷ [])) v
+set_of_more ps p w v before added small j =
+    let fits : p < 64 = small p (omega (arith, count_append p ps (p ∷ []), same_self p)) in
+    added fits j
+    ∙ ap (λ b. eqb j p || b) (before (λ i some. small i (omega (arith, count_append i ps (p ∷ [])))) j)
+    ∙ sym (stands_more j p ps)

@@ -9,16 +9,13 @@ use response::test::ResponseTest;
 use tasks::set::TaskSet;
 use tasks::task::Task;
 
-// The tasks above a level.
-fn above(order: &[u8], level: usize) -> TaskSet
-    requires { level ≤ length order.now }
-    ensures { ((i : ℕ) → i < length order.now → slice_index order.now i < 64) → (j : ℕ) → holds result.word j ≡ nat_lt 0 (count j (highest level order.now)) }
+// The set of these tasks.
+fn set_of(positions: &[u8]) -> TaskSet
+    ensures { ((i : ℕ) → 0 < count i positions.now → i < 64) → (j : ℕ) → holds result.word j ≡ nat_lt 0 (count j positions.now) }
 {
-    let mut set = TaskSet::EMPTY;
-    for upper in 0..level {
-        set = set.with(order[upper] as usize);
-    }
-    set
+    positions.iter().fold(TaskSet::EMPTY, |set, position| {
+        set.with(usize::from(*position))
+    })
 }
 
 /// The test's answer for a level of an order, with exactly the tasks of the higher levels above; none where the task is
@@ -33,12 +30,9 @@ pub fn level_time<T: ResponseTest>(
     ensures past { length order.now ≤ level → result ≡ None }
     ensures kept { length tasks.now ≤ 64 → Order (length tasks.now) order.now → Named (T.Admission.admitted test.now) (T.ResponseTest.answer test.now) → Held (T.Admission.admitted test.now) (timed tasks.now) → KeepsLevel (timed tasks.now) order.now level result }
 {
-    if level >= order.len() {
-        return None;
-    }
-    let position = order[level] as usize;
+    let position = usize::from(*order.get(level)?);
     if position >= tasks.len() {
         return None;
     }
-    test.respond(tasks, position, above(order, level))
+    test.respond(tasks, position, set_of(&order[..level]))
 }

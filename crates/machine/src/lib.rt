@@ -12,30 +12,22 @@ pub mod level;
 
 /// Whatever jobs the tasks may release, every job of a level that is answered ends, and takes at most the answer; under
 /// either test.
-pub fn answers_bound_jobs() -> u8
+pub fn answers_bound_jobs()
     ensures by_one_job { Kept one_job_admits one_job }
     ensures by_window { Kept window_admits window }
-{
-    0
-}
+{}
 
 /// The same of any test whose admission and answers are those of one of the two.
-pub fn keeps_times<T: ResponseTest>(test: &T) -> u8
+pub fn keeps_times<T: ResponseTest>(test: &T)
     ensures { Named (T.Admission.admitted test.now) (T.ResponseTest.answer test.now) → Kept (T.Admission.admitted test.now) (T.ResponseTest.answer test.now) }
-{
-    0
-}
+{}
 
 /// The worked runs are as they say.
-pub fn worked_runs() -> u8
+pub fn worked_runs()
     ensures { Worked }
-{
-    0
-}
+{}
 
 /// Without one of its premises a response time may be outrun.
-pub fn premises_are_needed() -> u8
+pub fn premises_are_needed()
     ensures { PremisesNeeded }
-{
-    0
-}
+{}

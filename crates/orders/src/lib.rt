@@ -4,50 +4,36 @@
 ghost use Rattle.orders.specs.Theorems.{FirstOrderIsExact, FirstOrderIsGreedy, SearchEnds, SearchIsOptimal, VerticesByLevel, StackStaysSmall, OnlyOwnTaskLate};
 
 // The first order is none exactly where every order fails, and else it is an order that passes.
-pub fn first_order_is_exact<V>() -> u8
+pub fn first_order_is_exact<V>()
     ensures { FirstOrderIsExact V }
-{
-    0
-}
+{}
 
 // Each level of the first order has the task of least cost among those that pass there, on a tie the smallest.
-pub fn first_order_is_greedy<V>() -> u8
+pub fn first_order_is_greedy<V>()
     ensures { FirstOrderIsGreedy V }
-{
-    0
-}
+{}
 
 // After V(n) examined vertices nothing is active.
-pub fn search_ends<V>() -> u8
+pub fn search_ends<V>()
     ensures { SearchEnds V }
-{
-    0
-}
+{}
 
 // When nothing is active, the best order passes, and every order that passes costs at least as much.
-pub fn search_is_optimal<V>() -> u8
+pub fn search_is_optimal<V>()
     ensures { SearchIsOptimal V }
-{
-    0
-}
+{}
 
 // The active set never has more than n (n + 1) / 2 vertices.
-pub fn stack_stays_small<V>() -> u8
+pub fn stack_stays_small<V>()
     ensures { StackStaysSmall V }
-{
-    0
-}
+{}
 
 // When a vertex is examined, its ancestors pass with the times that it keeps: only its own task can be late.
-pub fn only_own_task_late<V>() -> u8
+pub fn only_own_task_late<V>()
     ensures { OnlyOwnTaskLate V }
-{
-    0
-}
+{}
 
 // V(n) is the sum over the levels l from 1 to n of n! / (n - l)!.
-pub fn vertices_by_level() -> u8
+pub fn vertices_by_level()
     ensures { VerticesByLevel }
-{
-    0
-}
+{}

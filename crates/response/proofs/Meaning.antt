@@ -1,6 +1,5 @@
 -- The definitions of the tests, shown to say what their laws in words say.
-use Rattle.std.proofs.Common.{◌≡◌, ℕ, zero, suc, ◌+◌, ◌-◌, ◌*◌, ◌/◌, ◌%◌, ◌<◌, ◌≤◌, min, false, ◌⊎◌, List, length, Some, None, Option, sym, refl, ap, ◌∙◌, subst, inl, inr, mul-le-mul_right, add-mul, div-add-mod', arith}
-use Rattle.std.proofs.lemmas.Nat.{mod_below}
+use Rattle.std.proofs.Common.{◌≡◌, ℕ, zero, suc, ◌+◌, ◌-◌, ◌*◌, ◌<◌, ◌≤◌, false, ◌⊎◌, List, length, Some, None, Option, sym, refl, ap, ◌∙◌, subst, inl, inr, arith}
 use Rattle.std.proofs.lemmas.Bool.{cases_Bool, cases_lt, le-leb, lt-leb, leb-true, ne_eqb, both_ways}
 use Rattle.tasks.specs.Numbers.{largest, max_below}
 use Rattle.tasks.specs.Sets.{holds}
@@ -8,38 +7,13 @@ use Rattle.tasks.specs.declared.task.Timing.{Timing}
 use Rattle.tasks.specs.Timing.{at}
 use Rattle.tasks.proofs.Ranges.{Least, least_some, least_is, largest_is, largest_most}
 use Rattle.response.specs.Tests.{blocking, section_below, busy, closes, delay, window}
-use Rattle.response.specs.Laws.{LeastSolution, Below, BusyWindow, LongestDelay, RoundingUpIsLeast, BlockingIsLongest, OneJobIsLeastSolution, WindowIsLongestDelay}
+use Rattle.response.specs.Laws.{LeastSolution, Below, BusyWindow, LongestDelay, BlockingIsLongest, OneJobIsLeastSolution, WindowIsLongestDelay}
 use Rattle.response.specs.Demand.{AllLegal, least_solution}
 use Rattle.response.proofs.Demand.{solution_settles, unsolved_settles, settles_unsolved}
 use Rattle.response.specs.Blocking.{section_held}
 use Rattle.response.proofs.Blocking.{section_other, section_self}
 use Rattle.response.specs.Jobs.{jobs, ended, closes_at, delay_at, window_at}
 use Rattle.response.proofs.Jobs.{warmer}
-
--- ---- rounding up
-
-pub rounding_up_is_least : RoundingUpIsLeast
-rounding_up_is_least w t pos =
-    let whole : w / t * t + w % t ≡ w = div-add-mod' w t in
-    let rest : w % t < t = mod_below w t pos in
-    let m : ℕ = min 1 (w % t) in
-    let apart : (w / t + m) * t ≡ w / t * t + m * t = add-mul (w / t) m t in
-    record {
-      covers = elim (cases_lt 0 (w % t)) [
-        | inl o ↦ let one : 1 * t ≤ m * t = mul-le-mul_right t (omega arith) in omega arith
-        | inr o ↦ omega arith
-      ];
-      fewest = λ n le. elim (cases_lt n (w / t + m)) [
-        | inl o ↦ elim (cases_lt 0 (w % t)) [
-          | inl some ↦ let less : n * t ≤ w / t * t = mul-le-mul_right t (omega arith) in omega arith
-          | inr none ↦
-              let less : (n + 1) * t ≤ w / t * t = mul-le-mul_right t (omega arith) in
-              let next : (n + 1) * t ≡ n * t + 1 * t = add-mul n 1 t in
-              omega arith
-        ]
-        | inr o ↦ o
-      ];
-    }
 
 -- ---- the blocking
 

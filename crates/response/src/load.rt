@@ -16,8 +16,10 @@ fn periods_begun(w: u32, period: u32) -> u32
 }
 
 // The base and the demand of `above` in a window of w ticks, or none past the limit.
+// A loop is plainer than a `try_fold`, which would test the limit twice too, and inside two closures.
 fn load_within(tasks: &[Task], above: TaskSet, base: u32, w: u32, limit: u32) -> Option<u32>
-    requires { (w ≤ 0x0800_0000) × (limit ≤ 0x0800_0000) }
+    requires w_bound { w ≤ 0x0800_0000 }
+    requires limit_bound { limit ≤ 0x0800_0000 }
     ensures { result ≡ up_to limit (base + demand (timed tasks.now) above.word w) }
 {
     let mut load = base;
@@ -29,7 +31,7 @@ fn load_within(tasks: &[Task], above: TaskSet, base: u32, w: u32, limit: u32) ->
             load += periods_begun(w, task.period) * task.execution;
         }
     }
-    if load > limit { None } else { Some(load) }
+    (load <= limit).then_some(load)
 }
 
 // The least window from 1 to the limit that its own load fills, sought from `start` upwards.
@@ -40,7 +42,8 @@ pub(crate) fn settle(
     start: u32,
     limit: u32,
 ) -> Option<u32>
-    requires start_bound { (start ≤ 0x0800_0000) × (limit ≤ 0x0800_0000) }
+    requires start_bound { start ≤ 0x0800_0000 }
+    requires limit_bound { limit ≤ 0x0800_0000 }
     requires under { Under (timed tasks.now) above.word base start }
     ensures { result ≡ settled (timed tasks.now) above.word base limit }
 {

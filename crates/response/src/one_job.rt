@@ -22,13 +22,13 @@ fn longest_below(tasks: &[Task], position: usize, above: TaskSet) -> u32
     ensures exact { result ≡ blocking (timed tasks.now) position above.word }
     ensures short { result < 4096 }
 {
-    let mut longest: u32 = 0;
-    for (other, task) in tasks.iter().enumerate() {
-        if other != position && !above.contains(other) {
-            longest = longest.max(u32::from(task.section));
-        }
-    }
-    longest
+    tasks
+        .iter()
+        .enumerate()
+        .filter(|(other, _)| *other != position && !above.contains(*other))
+        .map(|(_, task)| u32::from(task.section))
+        .max()
+        .unwrap_or(0)
 }
 
 impl Admission for OneJob {

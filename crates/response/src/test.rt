@@ -12,6 +12,7 @@ pub trait ResponseTest: Admission {
 
     ghost answer: { Self → Answers };
 
+    // The test's number in a packed table. A constant of the trait would need this method, which callers ask, beside it.
     fn code(&self) -> u8
         ensures { result ≡ number };
 

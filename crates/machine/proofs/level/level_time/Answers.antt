@@ -1,40 +1,23 @@
-use Rattle.std.proofs.Common.{◌≡◌, ℕ, ◌<◌, ◌≤◌, length, get_or, take, refl, ap, ◌∙◌, arith}
+use Rattle.std.proofs.Common.{length, ◌∙◌, arith}
 use Rattle.tasks.specs.Timing.{timed}
 use Rattle.response.proofs.Demand.{timed_length}
-use Rattle.orders.specs.Orders.{Order, word}
-use Rattle.machine.proofs.Places.{position, above_word}
-use Rattle.machine.proofs.Keeps.{level_kept, none_kept}
+use Rattle.machine.proofs.Places.{position, above_small, above_word}
+use Rattle.machine.proofs.Keeps.{level_kept}
 use Rattle.machine.proofs.level.level_time.Goals as goal
 
-pub returns-then-level-order : goal.returns-then-level-order
-returns-then-level-order g c = record {
-  answered = λ l. absurd (omega arith);
-  past = λ beyond. refl;
-  kept = λ few order named held. none_kept _ _ _;
-}
+pub returns-then-position-tasks-clause-answered : goal.returns-then-position-tasks-clause-answered
+returns-then-position-tasks-clause-answered g c l few order =
+    absurd (omega (arith, position _ c.args.order.now order c.args.level l, c.in_ok-get.ensures.lookup.3.1 0))
 
-pub returns-then-position-tasks : goal.returns-then-position-tasks
-returns-then-position-tasks g c = record {
-  answered = λ l few order. absurd (omega (arith, position _ c.args.order.now order c.args.level l));
-  past = λ beyond. absurd (omega arith);
-  kept = λ few order named held. none_kept _ _ _;
-}
+pub returns-clause-answered : goal.returns-clause-answered
+returns-clause-answered g c l few order =
+    let o = c.args.order.now in
+    let here = c.from-position.ensures ∙ c.in_ok-get.ensures.lookup.3.1 0 in
+    let set = above_word _ o order c.args.level c.set_of.result.word (c.set_of.ensures (above_small _ o order few c.args.level)) in
+    cc
 
-pub returns : goal.returns
-returns g c = record {
-  answered = answered;
-  past = λ beyond. absurd (omega arith);
-  kept = λ few order named held.
-      level_kept _ _ (timed c.args.tasks.now) (length c.args.tasks.now) c.args.order.now c.args.level c.respond.result
-      (timed_length c.args.tasks.now) order c.if-level-order.false (answered c.if-level-order.false few order) named held;
-}
-  where
-    answered : c.args.level < length c.args.order.now → length c.args.tasks.now ≤ 64 →
-        Order (length c.args.tasks.now) c.args.order.now →
-        c.respond.result ≡ g.T.ResponseTest.answer c.args.test.now (timed c.args.tasks.now)
-        (get_or c.args.order.now c.args.level 0) (word (take c.args.level c.args.order.now))
-    answered l few order =
-        c.respond.ensures
-        ∙ ap (λ (h : ℕ). g.T.ResponseTest.answer c.args.test.now (timed c.args.tasks.now) (get_or c.args.order.now c.args.level 0) h)
-        (above_word _ c.args.order.now order c.args.level c.above.result.word
-        (c.above.ensures (λ i i-in. omega (arith, position _ c.args.order.now order i i-in))))
+pub returns-clause-kept : goal.returns-clause-kept
+returns-clause-kept g c few order named held =
+    level_kept _ _ (timed c.args.tasks.now) (length c.args.tasks.now) c.args.order.now c.args.level c.respond.result
+    (timed_length c.args.tasks.now) order c.in_ok-get.ensures.lookup.3.0
+    (returns-clause-answered g c c.in_ok-get.ensures.lookup.3.0 few order) named held

@@ -1,10 +1,10 @@
-use Rattle.std.proofs.Common.{◌≡◌, ℕ, ◌+◌, ◌*◌, ◌≤◌, length, Some, sym, ap, ◌∙◌, subst, add-zero, arith}
+use Rattle.std.proofs.Common.{ℕ, ◌+◌, ◌*◌, ◌≤◌, length, sym, ap, subst, add-zero, arith}
 use Rattle.tasks.specs.Numbers.{sum_below}
 use Rattle.tasks.specs.Timing.{timed}
 use Rattle.response.specs.Tests.{job_load}
 use Rattle.tasks.proofs.Ranges.{sum_up, sum_next}
 use Rattle.response.specs.Demand.{load_other}
-use Rattle.response.proofs.Demand.{ceiling_bound, timed_length, load_task, up_to_past, up_to_at}
+use Rattle.response.proofs.Demand.{ceiling_bound, timed_length, load_task, up_to_past}
 use Rattle.response.proofs.load.load_within.Goals as goal
 use Rattle.response.proofs.load.load_within.Goals.{then-contains, else-contains}
 
@@ -48,19 +48,3 @@ loop-position-preserved c =
           let other = load_other (timed tasks) h c.args.w j (sym w.if-contains.ensures) in
           omega (arith, w.load-is)
     ]
-
-pub returns-then-load-limit-2 : goal.returns-then-load-limit-2
-returns-then-load-limit-2 c =
-    let ts = timed c.args.tasks.now in
-    let long = timed_length c.args.tasks.now in
-    let all : c.loop-position.position ≡ length ts = omega arith in
-    let whole = ap (λ (n : ℕ). c.args.base + sum_below n (job_load ts c.args.above.word c.args.w)) all in
-    sym (up_to_past _ _ (omega arith))
-
-pub returns-else-load-limit-2 : goal.returns-else-load-limit-2
-returns-else-load-limit-2 c =
-    let ts = timed c.args.tasks.now in
-    let long = timed_length c.args.tasks.now in
-    let all : c.loop-position.position ≡ length ts = omega arith in
-    let whole = ap (λ (n : ℕ). c.args.base + sum_below n (job_load ts c.args.above.word c.args.w)) all in
-    ap Some (c.loop-position.invariant ∙ whole) ∙ sym (up_to_at _ _ (omega arith))

@@ -1,5 +1,4 @@
 use Rattle.std.proofs.Common.{ℕ, ◌+◌, ◌*◌, Some, sym, ap, ◌∙◌, subst, subst₂, arith}
-use Rattle.std.proofs.lemmas.Nat.{mul-le}
 use Rattle.tasks.specs.declared.task.Timing.{Timing}
 use Rattle.tasks.specs.Timing.{timed}
 use Rattle.response.specs.Tests.{Under}
@@ -14,20 +13,11 @@ loop-job-init c =
     let long = timed_length tasks in
     so_far_start (timed tasks) (tasks_legal tasks) c.args.position (omega arith) c.args.above.word
 
-pub overflow_mul-job : goal.overflow_mul-job
-overflow_mul-job c =
-    let t = c.index-tasks-position.result in
-    let bound = mul-le c.loop-job.job t.execution 64 1048575 (omega arith) (omega arith) in
-    omega arith
-
-pub settle-requires : goal.settle-requires
-settle-requires c =
+pub settle-requires-clause-under : goal.settle-requires-clause-under
+settle-requires-clause-under c =
     let tasks = c.args.tasks.now in
-    let t = c.index-tasks-position.result in
-    let here = at_timed tasks c.args.position t c.requires c.index-tasks-position.is in (record {
-      start_bound = (omega arith, omega arith);
-      under = subst (λ (s : Timing). Under (timed tasks) c.args.above.word (c.loop-job.job * s.execution) (c.loop-job.end + s.execution)) here c.loop-job.invariant.warm;
-    })
+    let here = at_timed tasks c.args.position c.index-tasks-position.result c.requires c.index-tasks-position.is in
+    subst (λ (s : Timing). Under (timed tasks) c.args.above.word (c.loop-job.job * s.execution) (c.loop-job.end + s.execution)) here c.loop-job.invariant.warm
 
 pub returns-in_err-end : goal.returns-in_err-end
 returns-in_err-end c =
