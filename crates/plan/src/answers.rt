@@ -1,11 +1,6 @@
 // What the calls of a plan answer.
-#[derive(Clone, Copy, PartialEq, Eq, Debug)]
-pub struct Progress {
-    // how many vertices were examined
-    pub count: u32,
-    // whether none is left
-    pub finished: bool,
-}
+// How far an advance got.
+pub type Progress = search::progress::Progress<u32>;
 
 #[derive(Clone, Copy, PartialEq, Eq, Debug)]
 pub struct Reported {

@@ -1,7 +1,7 @@
 // What a table or a task is refused for, by layer.
 ghost use Rattle.std.specs.Prelude.{◌≡◌};
 ghost use Rattle.tasks.specs.Faults.{number_of, layer_of, record_of};
-ghost use Rattle.tasks.specs.declared.fault.Fault.TheVariants.{File, Task};
+ghost use Rattle.tasks.specs.declared.fault.Fault.TheVariants.{File, Task, Plan};
 
 // A fault of the file; a spare bit names its record, and 0 for the header.
 #[derive(Clone, Copy, Debug)]
@@ -120,5 +120,13 @@ impl From<TaskFault> for Fault {
 
     fn from(e: TaskFault) -> Fault {
         Fault::Task(e)
+    }
+}
+
+impl From<PlanFault> for Fault {
+    ghost from_gives = { λ e f. f ≡ Plan e };
+
+    fn from(e: PlanFault) -> Fault {
+        Fault::Plan(e)
     }
 }

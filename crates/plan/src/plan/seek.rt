@@ -10,6 +10,7 @@ use crate::state::State;
 use costs::cost::Cost;
 use law::command::Outcome;
 use response::test::ResponseTest;
+use search::problem::Problem;
 use tasks::fault::{Fault, PlanFault};
 
 // The most vertices that one advance examines.
@@ -25,9 +26,11 @@ impl<T: ResponseTest + Drop, C: Cost + Drop> Plan<T, C> {
         if held.len() == 0 {
             return Err(Fault::Plan(PlanFault::NoTask));
         }
-        if !self.search.start(&self.test, &self.cost, &self.tasks) {
-            return Err(Fault::Plan(PlanFault::NoOrder));
-        }
+        self.search.start(Problem {
+            test: &self.test,
+            cost: &self.cost,
+            tasks: &self.tasks,
+        })?;
         self.state = State::Searching;
         Ok(Outcome::Started)
     }
@@ -40,14 +43,17 @@ impl<T: ResponseTest + Drop, C: Cost + Drop> Plan<T, C> {
         if count > MOST_STEPS {
             return Err(Fault::Plan(PlanFault::Steps));
         }
-        let progress = self
-            .search
-            .advance(&self.test, &self.cost, &self.tasks, count as u64);
+        let problem = Problem {
+            test: &self.test,
+            cost: &self.cost,
+            tasks: &self.tasks,
+        };
+        let progress = self.search.advance(problem, count as u64);
         if progress.finished {
             self.state = State::Finished;
         }
         Ok(Outcome::Advanced {
-            count: progress.examined as u32,
+            count: progress.count as u32,
             finished: progress.finished,
         })
     }

@@ -15,5 +15,5 @@ overflow_cast-result g c =
     let p = c.args.self.now in
     let cs = plains p.tasks in
     let few = stepped_few (length cs) (g.T.ResponseTest.answer p.test (timings cs)) (priced (g.C.Cost.prices p.cost) cs) c.args.count (state p.search) in
-    let small : c.advance-progress.result.examined ≤ 1000000 = omega (arith, few, c.advance-progress.ensures.examined) in
+    let small : c.advance-progress.result.count ≤ 1000000 = omega (arith, few, c.advance-progress.ensures.examined) in
     search rules
