@@ -1,7 +1,6 @@
 -- A plan's state and its search.
-use Rattle.std.proofs.Common.{◌≡◌, ℕ, zero, suc, ◌<◌, ◌≤◌, Bool, true, false, cond, ltb, List, length, Some, None, Ok, Err, Option, sym, refl, ap, ◌∙◌, subst, arith, lt-ltb, eqb-true}
+use Rattle.std.proofs.Common.{◌≡◌, ℕ, zero, suc, ◌<◌, ◌≤◌, Bool, true, false, cond, ltb, List, length, Some, None, Ok, Err, sym, refl, ap, ◌∙◌, subst, arith, lt-ltb, eqb-true}
 use mathlib.Core.HLevel.{is_prop→PathP}
-use borrow.Author.Tests.{clash}
 use mathlib.Core.Bool.{Bool-set}
 use Rattle.tasks.specs.declared.fault.Fault.TheVariants.{Plan as PlanFault}
 use Rattle.tasks.specs.declared.fault.PlanFault.TheVariants as plan
@@ -10,7 +9,6 @@ use Rattle.orders.specs.Orders.{Test, Assignment}
 use Rattle.orders.specs.Costs.{Cost}
 use Rattle.orders.specs.Search as orders
 use Rattle.search.specs.declared.search.Search.{Search}
-use Rattle.search.specs.Model as search
 use Rattle.law.specs.declared.command.Command.TheVariants.{Start}
 use Rattle.law.specs.declared.command.Outcome.TheVariants.{Started}
 use Rattle.law.specs.Meaning.{Meaning}
@@ -40,11 +38,6 @@ module _ {V : Type 0} (n : ℕ) (answer : Test) (c : Cost V) where
   stepped_few zero s = omega arith
   stepped_few (suc k) s =
       stepped_by (orders.is_none s.active) k (orders.stepped n answer c k (orders.examine n answer c s)) (stepped_few k (orders.examine n answer c s))
-
-pub unstarted : (o : Option Assignment) (n : ℕ) (began : Bool) (before after : Search) → began ≡ false → search.Started o n began before after
-    → (o ≡ None) × (after ≡ before)
-unstarted None n began before after e h = (refl, h.1)
-unstarted (Some first) n began before after e h = absurd (clash (sym e ∙ h.0))
 
 module _ {T C : Type 0} (p : Plan T C) where
   -- a plan whose search is the one that it was

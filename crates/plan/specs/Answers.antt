@@ -6,7 +6,7 @@ use Rattle.law.specs.declared.command.Outcome.{Outcome}
 use Rattle.law.specs.declared.command.Outcome.TheVariants.{Done, Started, Advanced, Reported as ReportedOutcome}
 use Rattle.law.specs.Meaning.{Meaning}
 use Rattle.law.specs.Obey.{obey}
-use Rattle.plan.specs.declared.answers.Progress.{Progress}
+use Rattle.search.specs.declared.progress.Progress.{Progress}
 use Rattle.plan.specs.declared.answers.Reported.{Reported}
 use Rattle.plan.specs.declared.plan.Plan.{Plan}
 use Rattle.plan.specs.Calls.{at, Unchanged}
@@ -21,7 +21,7 @@ abbrev pub told : {A : Type 0} → (A → Outcome) → Result A Fault → Result
 told f (Ok a) = Ok (f a)
 told f (Err e) = Err e
 
-abbrev pub advanced : Progress → Outcome
+abbrev pub advanced : Progress ℕ → Outcome
 advanced p = Advanced p.count p.finished
 
 abbrev pub reported_outcome : Reported → Outcome
@@ -32,7 +32,7 @@ abbrev pub done : Outcome → Unit {0}
 done o = tt
 
 -- how far an advance got
-abbrev pub progress : Outcome → Progress
+abbrev pub progress : Outcome → Progress ℕ
 progress Done = record { count = 0; finished = false }
 progress Started = record { count = 0; finished = false }
 progress (Advanced count finished) = record { count = count; finished = finished }

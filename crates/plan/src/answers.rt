@@ -4,13 +4,8 @@ ghost use Rattle.plan.specs.Answers.{advanced, reported_outcome};
 
 use law::command::Outcome;
 
-#[derive(Clone, Copy, PartialEq, Eq, Debug)]
-pub struct Progress {
-    // how many vertices were examined
-    pub count: u32,
-    // whether none is left
-    pub finished: bool,
-}
+// How far an advance got.
+pub type Progress = search::progress::Progress<u32>;
 
 #[derive(Clone, Copy, PartialEq, Eq, Debug)]
 pub struct Reported {
@@ -21,14 +16,13 @@ pub struct Reported {
     pub second: u64,
 }
 
-impl From<Progress> for Outcome {
-    ghost from_gives = { λ p o. o ≡ advanced p };
-
-    fn from(progress: Progress) -> Outcome {
-        Outcome::Advanced {
-            count: progress.count,
-            finished: progress.finished,
-        }
+// An advance as an outcome: no `From`, since both types are of other crates.
+pub(crate) fn advanced(progress: Progress) -> Outcome
+    ensures { result ≡ advanced progress }
+{
+    Outcome::Advanced {
+        count: progress.count,
+        finished: progress.finished,
     }
 }
 

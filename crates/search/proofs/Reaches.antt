@@ -1,6 +1,8 @@
 -- What holds of a search that has come from the first order.
-use Rattle.std.proofs.Common.{◌≡◌, ℕ, ◌+◌, ◌≤◌, Bool, true, false, List, length, Some, None, Option, sym, refl, ap, ◌∙◌, subst}
+use Rattle.std.proofs.Common.{◌≡◌, ℕ, ◌+◌, ◌≤◌, Bool, true, false, List, length, Some, None, Err, Option, Result, is_err, sym, refl, ap, ◌∙◌, subst}
 use Rattle.std.proofs.lemmas.Bool.{false≢true}
+use Rattle.tasks.specs.declared.fault.PlanFault.{PlanFault}
+use Rattle.tasks.specs.declared.fault.PlanFault.TheVariants.{NoOrder}
 use Rattle.tasks.specs.declared.task.Candidate.{Candidate}
 use Rattle.tasks.specs.declared.task.Timing.{Timing}
 use Rattle.tasks.specs.Timing.{timings, Held}
@@ -39,9 +41,16 @@ module _ {V : Type 0} (answer : response.Answers) (prices : Prices V) (held : Li
 
 -- ---- whether a search was started
 
-pub not_started : (o : Option Assignment) (n : ℕ) (began : Bool) (before after : Search) → began ≡ false → Started o n began before after → o ≡ None
-not_started None n began before after e h = refl
-not_started (Some first) n began before after e h = absurd (false≢true (sym e ∙ h.0))
+-- what a search is that was refused
+pub record Refused (o : Option Assignment) (answered : Result Unit PlanFault) (before after : Search) : Type 0 where
+  pub no_first : o ≡ None
+  pub fault : answered ≡ Err NoOrder
+  pub same : after ≡ before
+
+pub not_started : (o : Option Assignment) (n : ℕ) (answered : Result Unit PlanFault) (before after : Search) → is_err answered ≡ true
+    → Started o n answered before after → Refused o answered before after
+not_started None n answered before after e h = record { no_first = refl; fault = h.0; same = h.1 }
+not_started (Some first) n answered before after e h = absurd (false≢true (sym (ap is_err h.0) ∙ e))
 
 pub record Begun (o : Option Assignment) (n : ℕ) (s : Search) : Type 0 where
   pub first : Assignment
@@ -49,6 +58,7 @@ pub record Begun (o : Option Assignment) (n : ℕ) (s : Search) : Type 0 where
   pub size : s.size ≡ n
   pub is_begun : state s ≡ begun n first
 
-pub was_started : (o : Option Assignment) (n : ℕ) (began : Bool) (before after : Search) → began ≡ true → Started o n began before after → Begun o n after
-was_started None n began before after e h = absurd (false≢true (sym h.0 ∙ e))
-was_started (Some first) n began before after e h = record { first = first; is_first = refl; size = h.1; is_begun = h.2 }
+pub was_started : (o : Option Assignment) (n : ℕ) (answered : Result Unit PlanFault) (before after : Search) → is_err answered ≡ false
+    → Started o n answered before after → Begun o n after
+was_started None n answered before after e h = absurd (false≢true (sym e ∙ ap is_err h.0))
+was_started (Some first) n answered before after e h = record { first = first; is_first = refl; size = h.1; is_begun = h.2 }

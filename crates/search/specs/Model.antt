@@ -1,5 +1,7 @@
 -- The rules over held tasks, a response test and a cost, and what a search stands for.
-use Rattle.std.specs.Prelude.{◌≡◌, ℕ, ◌<◌, Bool, true, false, List, map, reverse, length, Some, None, vec_items, Option}
+use Rattle.std.specs.Prelude.{◌≡◌, ℕ, ◌<◌, Bool, true, List, map, reverse, length, Some, None, vec_items, Option, Result, Ok, Err}
+use Rattle.tasks.specs.declared.fault.PlanFault.{PlanFault}
+use Rattle.tasks.specs.declared.fault.PlanFault.TheVariants.{NoOrder}
 use Rattle.tasks.specs.declared.task.Candidate.{Candidate}
 use Rattle.tasks.specs.declared.task.Timing.{Timing}
 use Rattle.tasks.specs.Timing.{timings, at}
@@ -29,9 +31,9 @@ abbrev pub worth : {V : Type 0} → Cost V → Assignment → V
 worth c a = cost c a.order a.times
 
 -- where there is no first order the search is left as it was, else it begins with all n tasks
-abbrev pub Started : Option Assignment → ℕ → Bool → Search → Search → Type 0
-Started None n began before after = (began ≡ false) × (after ≡ before)
-Started (Some first) n began before after = (began ≡ true) × (after.size ≡ n) × (state after ≡ begun n first)
+abbrev pub Started : Option Assignment → ℕ → Result Unit PlanFault → Search → Search → Type 0
+Started None n answered before after = (answered ≡ Err NoOrder) × (after ≡ before)
+Started (Some first) n answered before after = (answered ≡ Ok tt) × (after.size ≡ n) × (state after ≡ begun n first)
 
 -- ---- the rules over the held tasks, a test's answers and a cost's prices
 module _ {V : Type 0} (answer : Answers) (prices : Prices V) (held : List Candidate) where

@@ -4,6 +4,8 @@
 pub mod best;
 pub mod first;
 mod pick;
+pub mod problem;
+pub mod progress;
 pub mod ranking;
 pub mod search;
 pub mod tree;

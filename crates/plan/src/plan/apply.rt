@@ -5,6 +5,7 @@ ghost use Rattle.plan.specs.Model.{model, means};
 ghost use Rattle.plan.specs.Leading.{LedOn};
 
 use super::Plan;
+use crate::answers::advanced;
 use crate::state::State;
 use costs::cost::Cost;
 use law::command::{Command, Outcome};
@@ -36,10 +37,8 @@ impl<T: ResponseTest + Drop, C: Cost + Drop> Plan<T, C> {
             (State::Open | State::Finished, Command::Start) => {
                 self.begin_search().map(|()| Outcome::Started)
             }
-            (State::Searching, Command::Advance(count)) => {
-                self.examine(count).map(Outcome::from)
-            }
-            (State::Finished, Command::Advance(count)) => self.rest(count).map(Outcome::from),
+            (State::Searching, Command::Advance(count)) => { self.examine(count).map(advanced) }
+            (State::Finished, Command::Advance(count)) => self.rest(count).map(advanced),
             (State::Searching | State::Finished, Command::Stop) => {
                 self.end_search().map(|()| Outcome::Done)
             }

@@ -13,6 +13,7 @@ use crate::answers::Progress;
 use crate::state::State;
 use costs::cost::Cost;
 use response::test::ResponseTest;
+use search::problem::Problem;
 use tasks::fault::{Fault, PlanFault};
 
 // The most vertices that one advance examines.
@@ -37,9 +38,11 @@ impl<T: ResponseTest + Drop, C: Cost + Drop> Plan<T, C> {
         if held.len() == 0 {
             return Err(Fault::Plan(PlanFault::NoTask));
         }
-        if !self.search.start(&self.test, &self.cost, &self.tasks) {
-            return Err(Fault::Plan(PlanFault::NoOrder));
-        }
+        self.search.start(Problem {
+            test: &self.test,
+            cost: &self.cost,
+            tasks: &self.tasks,
+        })?;
         self.state = State::Searching;
         Ok(())
     }
@@ -50,14 +53,17 @@ impl<T: ResponseTest + Drop, C: Cost + Drop> Plan<T, C> {
         ensures { Served (means T.Admission T.ResponseTest.own C.Cost self.old) (Advance count) self.old self.new (told advanced result) }
     {
         check_steps(count)?;
-        let progress = self
-            .search
-            .advance(&self.test, &self.cost, &self.tasks, count as u64);
+        let problem = Problem {
+            test: &self.test,
+            cost: &self.cost,
+            tasks: &self.tasks,
+        };
+        let progress = self.search.advance(problem, u64::from(count));
         if progress.finished {
             self.state = State::Finished;
         }
         Ok(Progress {
-            count: progress.examined as u32,
+            count: progress.count as u32,
             finished: progress.finished,
         })
     }

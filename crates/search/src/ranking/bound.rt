@@ -5,22 +5,21 @@ ghost use Rattle.search.specs.Ranks.{ranked, ranks, all_below};
 ghost use Rattle.search.specs.Model.{bound_over};
 
 use super::Ranking;
+use crate::problem::Problem;
 use costs::cost::Cost;
 use costs::fold::add_task;
 use response::test::ResponseTest;
-use tasks::list::TaskList;
 
 impl Ranking {
     // The cost of the placed tasks and of each other task below exactly these, or none where one is late.
     pub(crate) fn bound<T: ResponseTest, C: Cost>(
         &self,
-        test: &T,
-        cost: &C,
-        tasks: &TaskList,
+        problem: Problem<'_, T, C>,
     ) -> Option<C::Value>
-        requires { all_below (length (plains tasks.now)) (ranks self.now) ≡ true }
-        ensures { result ≡ bound_over (T.answer test.now) (C.prices cost.now) (plains tasks.now) (ranked self.now) }
+        requires { all_below (length (plains problem.tasks.now)) (ranks self.now) ≡ true }
+        ensures { result ≡ bound_over (T.answer problem.entry.test.now) (C.prices problem.entry.cost.now) (plains problem.entry.tasks.now) (ranked self.now) }
     {
+        let Problem { test, cost, tasks } = problem;
         let held = tasks.as_slice();
         let mut sum = cost.none();
         for (position, task) in held.iter().enumerate() {

@@ -12,7 +12,7 @@ impl Ranking {
         ensures { ranked result ≡ nothing_placed }
     {
         Ranking {
-            placed: TaskSet { word: 0 },
+            placed: TaskSet::EMPTY,
             order: [0; 16],
             times: [0; 16],
         }
@@ -27,7 +27,8 @@ impl Ranking {
 
     // One task more, at the next level.
     pub(crate) fn with(&self, task: u8, time: u32) -> Ranking
-        requires { (task < 16) × (holds self.now.placed.word task ≡ false) }
+        requires low { task < 16 }
+        requires free { holds self.now.placed.word task ≡ false }
         ensures { ranked result ≡ below (ranked self.now) task time }
     {
         let mut order = self.order;

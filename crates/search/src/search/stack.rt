@@ -1,5 +1,5 @@
 // The stack of vertices, and how a search begins.
-ghost use Rattle.std.specs.Prelude.{◌≡◌, ◌<◌, ◌≤◌, true, [], ◌++◌, length, IfOk, vec_len};
+ghost use Rattle.std.specs.Prelude.{◌≡◌, ◌<◌, ◌≤◌, true, [], ◌++◌, length, IfOk, OnOk, vec_len};
 ghost use Rattle.tasks.specs.Lists.{plains};
 ghost use Rattle.orders.specs.Orders.{Order};
 ghost use Rattle.orders.specs.Search.{nothing_placed, begun, entering};
@@ -7,13 +7,13 @@ ghost use Rattle.search.specs.Ranks.{ranks, ranked, room, all_below};
 ghost use Rattle.search.specs.Model.{state, first_over, Started};
 
 use super::Search;
-use crate::first::first_order;
+use crate::problem::Problem;
 use crate::ranking::Ranking;
 use crate::vertex::Vertex;
 use costs::cost::Cost;
 use response::test::ResponseTest;
 use std::alloc::{AllocError, Global};
-use tasks::list::TaskList;
+use tasks::fault::PlanFault;
 
 impl Search {
     // A search that has nothing to examine, with room for every search.
@@ -29,23 +29,25 @@ impl Search {
     }
 
     // Begins with the first order as the best, or leaves the search as it was where no order passes.
-    pub fn start<T: ResponseTest, C: Cost>(&mut self, test: &T, cost: &C, tasks: &TaskList) -> bool
-        ensures started { Started (first_over (T.answer test.now) (C.prices cost.now) (plains tasks.now)) (length (plains tasks.now)) result self.old self.new }
-        ensures size { result ≡ true → self.new.size ≡ length (plains tasks.now) }
+    pub fn start<T: ResponseTest, C: Cost>(
+        &mut self,
+        problem: Problem<'_, T, C>,
+    ) -> Result<(), PlanFault>
+        ensures started { Started (first_over (T.answer problem.entry.test.now) (C.prices problem.entry.cost.now) (plains problem.entry.tasks.now)) (length (plains problem.entry.tasks.now)) result self.old self.new }
+        ensures size { OnOk result (self.new.size ≡ length (plains problem.entry.tasks.now)) }
     {
-        match first_order(test, cost, tasks) {
-            Some(first) => {
-                let held = tasks.as_slice();
-                self.begin(held.len(), first);
-                true
-            }
-            None => false,
-        }
+        let Some(first) = problem.first_order() else {
+            return Err(PlanFault::NoOrder);
+        };
+        let held = problem.tasks.as_slice();
+        self.begin(held.len(), first);
+        Ok(())
     }
 
     // Begins with every task at level 1, the first to be examined first.
     fn begin(&mut self, size: usize, first: Ranking)
-        requires { (size ≤ 16) × (Order size (ranks first)) }
+        requires few { size ≤ 16 }
+        requires order { Order size (ranks first) }
         ensures size { self.new.size ≡ size }
         ensures state { state self.new ≡ begun size (ranked first) }
     {
@@ -57,7 +59,8 @@ impl Search {
 
     // Puts every task that is not placed at the next level, the first to be examined first.
     pub(crate) fn enter(&mut self, above: Ranking)
-        requires { (vec_len self.old.active ≤ room (length (ranks above))) × (all_below self.old.size (ranks above) ≡ true) }
+        requires room { vec_len self.old.active ≤ room (length (ranks above)) }
+        requires among { all_below self.old.size (ranks above) ≡ true }
         ensures size { self.new.size ≡ self.old.size }
         ensures best { self.new.best ≡ self.old.best }
         ensures active { (state self.new).active ≡ entering self.old.size (ranked above) ++ (state self.old).active }

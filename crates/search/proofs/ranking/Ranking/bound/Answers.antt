@@ -14,8 +14,8 @@ use Rattle.search.proofs.ranking.Ranking.bound.Goals.{then-contains, else-contai
 
 pub loop-position-init : goal.loop-position-init
 loop-position-init g c =
-    let p = g.C.Cost.prices c.args.cost.now in
-    let laws = g.met.C.Cost.lawful c.args.cost.now in
+    let p = g.C.Cost.prices c.args.problem.cost.now in
+    let laws = g.met.C.Cost.lawful c.args.problem.cost.now in
     (rw (c.none-sum.ensures, laws.covers_none) (omega arith), c.none-sum.ensures ∙ sym (join_none p _), λ i h. absurd (omega arith))
 
 pub add_task-sum-requires : goal.add_task-sum-requires
@@ -23,17 +23,17 @@ add_task-sum-requires g c = omega (arith, c.loop-position.invariant.0, c.as_slic
 
 pub loop-position-preserved : goal.loop-position-preserved
 loop-position-preserved g c =
-    let p = g.C.Cost.prices c.args.cost.now in
-    let l = c.args.tasks.now in
+    let p = g.C.Cost.prices c.args.problem.cost.now in
+    let l = c.args.problem.tasks.now in
     let held = plains l in
-    let answer = g.T.ResponseTest.answer c.args.test.now (timings held) in
+    let answer = g.T.ResponseTest.answer c.args.problem.test.now (timings held) in
     let r = c.args.self.now in
     let x = r.placed.word in
     let slice = c.as_slice-held in
     let i = c.loop-position.position in
     let f = of_either p held r.times x answer in
     let inv = c.loop-position.invariant in
-    let read = asked (g.T.ResponseTest.answer c.args.test.now) (items l) slice.result.now slice.ensures.items i x in
+    let read = asked (g.T.ResponseTest.answer c.args.problem.test.now) (items l) slice.result.now slice.ensures.items i x in
     let one = charge_at p (items l) slice.result.now slice.ensures.items i c.index-held-position.result c.if-contains.time c.loop-position-test.true c.index-held-position.is in
     let here : charge p held i c.if-contains.time ≡ f i
     = elim c.if-contains.branch [
@@ -57,16 +57,16 @@ loop-position-preserved g c =
 
 pub returns-in_err-time : goal.returns-in_err-time
 returns-in_err-time g c =
-    let p = g.C.Cost.prices c.args.cost.now in
-    let laws = g.met.C.Cost.lawful c.args.cost.now in
-    let l = c.args.tasks.now in
+    let p = g.C.Cost.prices c.args.problem.cost.now in
+    let laws = g.met.C.Cost.lawful c.args.problem.cost.now in
+    let l = c.args.problem.tasks.now in
     let held = plains l in
-    let answer = g.T.ResponseTest.answer c.args.test.now (timings held) in
+    let answer = g.T.ResponseTest.answer c.args.problem.test.now (timings held) in
     let r = c.args.self.now in
     let slice = c.as_slice-held in
     let i = c.loop-position.position in
     let size = count_plain (items l) slice.result.now slice.ensures.items in
-    let read = asked (g.T.ResponseTest.answer c.args.test.now) (items l) slice.result.now slice.ensures.items i r.placed.word in
+    let read = asked (g.T.ResponseTest.answer c.args.problem.test.now) (items l) slice.result.now slice.ensures.items i r.placed.word in
     c.from_residual.ensures
     ∙ sym (bound_late p laws held r.times (ranks r) (front_below r (length held) c.requires) r.placed.word r.marked answer
     i (omega (arith, c.loop-position-test.true)) (sym c.contains.ensures ∙ c.if-contains.false)
@@ -74,11 +74,11 @@ returns-in_err-time g c =
 
 pub returns : goal.returns
 returns g c =
-    let p = g.C.Cost.prices c.args.cost.now in
-    let laws = g.met.C.Cost.lawful c.args.cost.now in
-    let l = c.args.tasks.now in
+    let p = g.C.Cost.prices c.args.problem.cost.now in
+    let laws = g.met.C.Cost.lawful c.args.problem.cost.now in
+    let l = c.args.problem.tasks.now in
     let held = plains l in
-    let answer = g.T.ResponseTest.answer c.args.test.now (timings held) in
+    let answer = g.T.ResponseTest.answer c.args.problem.test.now (timings held) in
     let r = c.args.self.now in
     let slice = c.as_slice-held in
     let size = count_plain (items l) slice.result.now slice.ensures.items in

@@ -8,9 +8,9 @@ use Rattle.search.proofs.ranking.Ranking.bound.Given as goal
 
 abbrev pub invariant-loop-position : goal.invariant-loop-position
 invariant-loop-position g l =
-    let p = g.C.Cost.prices l.cost in
-    let held = plains l.tasks in
-    let answer = g.T.ResponseTest.answer l.test (timings held) in
+    let p = g.C.Cost.prices l.problem.cost.now in
+    let held = plains l.problem.tasks.now in
+    let answer = g.T.ResponseTest.answer l.problem.test.now (timings held) in
     let w = l.self.placed.word in
     (p.covered l.sum ≤ l.position)
     × (l.sum ≡ join_below p l.position (of_either p held l.self.times w answer))

@@ -4,10 +4,7 @@ use Rattle.search.specs.Ranks.{ranked, waiting, all_below}
 use Rattle.search.proofs.search.Search.begin.Goals as goal
 
 pub enter-requires : goal.enter-requires
-enter-requires c = (
-  omega arith,
-  ap (λ a. all_below c.args.size a.order) c.none.ensures,
-)
+enter-requires c = record { room = omega arith; among = ap (λ a. all_below c.args.size a.order) c.none.ensures }
 
 pub returns : goal.returns
 returns c =

@@ -17,7 +17,7 @@ push_reserved-requires c =
     let base = c.args.self.now in
     let r = c.args.above in
     let place = place_left r (vec_items s.active) (vec_items base.active) c.loop-position.position s.size
-    c.loop-position-test.true (omega arith) c.loop-position.invariant.2 s.few (omega (arith, c.requires.0, base.active.ok.0)) (sym c.contains.ensures ∙ c.if-not-contains.true) in
+    c.loop-position-test.true (omega arith) c.loop-position.invariant.2 s.few (omega (arith, c.requires.room, base.active.ok.0)) (sym c.contains.ensures ∙ c.if-not-contains.true) in
     let most = room_up (suc (length (ranks r))) 16
     (room_left r (c.loop-position.position - 1) (omega arith) (sym c.contains.ensures ∙ c.if-not-contains.true)) in
     omega arith
@@ -27,8 +27,8 @@ invariant_of-self c =
     let s = c.loop-position.self in
     let base = c.args.self.now in
     let place = place_left c.args.above (vec_items s.active) (vec_items base.active) c.loop-position.position s.size
-    c.loop-position-test.true (omega arith) c.loop-position.invariant.2 s.few (omega (arith, c.requires.0, base.active.ok.0)) (sym c.contains.ensures ∙ c.if-not-contains.true) in
-    let above = subst (λ n. all_below n (ranks c.args.above) ≡ true) (sym c.loop-position.invariant.0) c.requires.1 in
+    c.loop-position-test.true (omega arith) c.loop-position.invariant.2 s.few (omega (arith, c.requires.room, base.active.ok.0)) (sym c.contains.ensures ∙ c.if-not-contains.true) in
+    let above = subst (λ n. all_below n (ranks c.args.above) ≡ true) (sym c.loop-position.invariant.0) c.requires.among in
     record {
       few = s.few;
       once = s.once;

@@ -28,7 +28,7 @@ respond-requires g c =
     let s = c.args.self.now in
     let v = c.in_ok-vertex.vertex in
     let known = off s.size (vec_items s.active) (vec_items c.pop.new.self) v c.in_ok-vertex.ensures.items s.sound in
-    omega (arith, known.low, c.requires.over_held, count_plain (items c.args.tasks.now) c.as_slice-held.result.now c.as_slice-held.ensures.items)
+    omega (arith, known.low, c.requires.over_held, count_plain (items c.args.problem.tasks.now) c.as_slice-held.result.now c.as_slice-held.ensures.items)
 
 pub settle-requires : goal.settle-requires
 settle-requires g c =
@@ -46,11 +46,11 @@ pub returns-in-Some : goal.returns-in-Some
 returns-in-Some g c =
     let s = c.args.self.now in
     let v = c.in_ok-vertex.vertex in
-    let l = c.args.tasks.now in
+    let l = c.args.problem.tasks.now in
     let held = plains l in
-    let answer = g.T.ResponseTest.answer c.args.test.now (timings held) in
-    let costs = priced (g.C.Cost.prices c.args.cost.now) held in
-    let read = asked (g.T.ResponseTest.answer c.args.test.now) (items l) c.as_slice-held.result.now c.as_slice-held.ensures.items v.task v.above.placed.word in
+    let answer = g.T.ResponseTest.answer c.args.problem.test.now (timings held) in
+    let costs = priced (g.C.Cost.prices c.args.problem.cost.now) held in
+    let read = asked (g.T.ResponseTest.answer c.args.problem.test.now) (items l) c.as_slice-held.result.now c.as_slice-held.ensures.items v.task v.above.placed.word in
     let rest = map waiting (reverse (vec_items c.pop.new.self)) in
     let active : map waiting (reverse (vec_items s.active)) ≡ waiting v ∷ rest
     = popped s.size (vec_items s.active) (vec_items c.pop.new.self) (Some v) c.in_ok-vertex.ensures.items in
@@ -66,11 +66,11 @@ pub returns : goal.returns
 returns g c =
     let s = c.args.self.now in
     let v = c.in_ok-vertex.vertex in
-    let l = c.args.tasks.now in
+    let l = c.args.problem.tasks.now in
     let held = plains l in
-    let answer = g.T.ResponseTest.answer c.args.test.now (timings held) in
-    let costs = priced (g.C.Cost.prices c.args.cost.now) held in
-    let read = asked (g.T.ResponseTest.answer c.args.test.now) (items l) c.as_slice-held.result.now c.as_slice-held.ensures.items v.task v.above.placed.word in
+    let answer = g.T.ResponseTest.answer c.args.problem.test.now (timings held) in
+    let costs = priced (g.C.Cost.prices c.args.problem.cost.now) held in
+    let read = asked (g.T.ResponseTest.answer c.args.problem.test.now) (items l) c.as_slice-held.result.now c.as_slice-held.ensures.items v.task v.above.placed.word in
     let rest = map waiting (reverse (vec_items c.pop.new.self)) in
     let active : map waiting (reverse (vec_items s.active)) ≡ waiting v ∷ rest
     = popped s.size (vec_items s.active) (vec_items c.pop.new.self) (Some v) c.in_ok-vertex.ensures.items in

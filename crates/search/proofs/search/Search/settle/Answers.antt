@@ -13,11 +13,11 @@ use Rattle.search.proofs.search.Search.settle.Goals as goal
 
 pub returns-then-no_more : goal.returns-then-no_more
 returns-then-no_more g c =
-    let l = c.args.tasks.now in
+    let l = c.args.problem.tasks.now in
     let held = plains l in
     let n = length held in
-    let answer = g.T.ResponseTest.answer c.args.test.now (timings held) in
-    let p = g.C.Cost.prices c.args.cost.now in
+    let answer = g.T.ResponseTest.answer c.args.problem.test.now (timings held) in
+    let p = g.C.Cost.prices c.args.problem.cost.now in
     let costs = priced p held in
     let s = c.args.self.now in
     let best = ranked s.best in
@@ -28,14 +28,14 @@ returns-then-no_more g c =
     let level = c.level.ensures in
     let last : length (ranks c.args.here) ≡ n = omega (arith, c.if-level-held.true) in
     let order = last_is_order c.args.here n s.size c.requires.over_held c.requires.among last in
-    let total = c.total_cost-total.ensures.value ∙ total_is p (g.met.C.Cost.lawful c.args.cost.now) held (λ i. get_or c.args.here.times i 0) (ranks c.args.here) order in
+    let total = c.total_cost-total.ensures.value ∙ total_is p (g.met.C.Cost.lawful c.args.problem.cost.now) held (λ i. get_or c.args.here.times i 0) (ranks c.args.here) order in
     let test = ap₂ p.no_more (sym c.requires.price) (sym total) ∙ sym c.no_more.ensures in
     record { size = refl; state = sym (last_kept n answer costs best rest here last (test ∙ c.if-no_more.true)); price = c.requires.price }
 
 pub invariant_of-self : goal.invariant_of-self
 invariant_of-self g c =
     let s = c.args.self.now in
-    let l = c.args.tasks.now in
+    let l = c.args.problem.tasks.now in
     let n = length (plains l) in
     let slice = c.as_slice-held in
     let size = count_plain (items l) slice.result.now slice.ensures.items in
@@ -46,11 +46,11 @@ invariant_of-self g c =
 
 pub returns-then-level-held : goal.returns-then-level-held
 returns-then-level-held g c =
-    let l = c.args.tasks.now in
+    let l = c.args.problem.tasks.now in
     let held = plains l in
     let n = length held in
-    let answer = g.T.ResponseTest.answer c.args.test.now (timings held) in
-    let p = g.C.Cost.prices c.args.cost.now in
+    let answer = g.T.ResponseTest.answer c.args.problem.test.now (timings held) in
+    let p = g.C.Cost.prices c.args.problem.cost.now in
     let costs = priced p held in
     let s = c.args.self.now in
     let best = ranked s.best in
@@ -61,17 +61,17 @@ returns-then-level-held g c =
     let level = c.level.ensures in
     let last : length (ranks c.args.here) ≡ n = omega (arith, c.if-level-held.true) in
     let order = last_is_order c.args.here n s.size c.requires.over_held c.requires.among last in
-    let total = c.total_cost-total.ensures.value ∙ total_is p (g.met.C.Cost.lawful c.args.cost.now) held (λ i. get_or c.args.here.times i 0) (ranks c.args.here) order in
+    let total = c.total_cost-total.ensures.value ∙ total_is p (g.met.C.Cost.lawful c.args.problem.cost.now) held (λ i. get_or c.args.here.times i 0) (ranks c.args.here) order in
     let test = ap₂ p.no_more (sym c.requires.price) (sym total) ∙ sym c.no_more.ensures in
     record { size = refl; state = sym (last_new n answer costs best rest here last (test ∙ c.if-no_more.false)); price = total }
 
 pub returns-then-not-no_more : goal.returns-then-not-no_more
 returns-then-not-no_more g c =
-    let l = c.args.tasks.now in
+    let l = c.args.problem.tasks.now in
     let held = plains l in
     let n = length held in
-    let answer = g.T.ResponseTest.answer c.args.test.now (timings held) in
-    let p = g.C.Cost.prices c.args.cost.now in
+    let answer = g.T.ResponseTest.answer c.args.problem.test.now (timings held) in
+    let p = g.C.Cost.prices c.args.problem.cost.now in
     let costs = priced p held in
     let s = c.args.self.now in
     let best = ranked s.best in
@@ -94,11 +94,11 @@ returns-then-not-no_more g c =
 
 pub returns-else-not-no_more : goal.returns-else-not-no_more
 returns-else-not-no_more g c =
-    let l = c.args.tasks.now in
+    let l = c.args.problem.tasks.now in
     let held = plains l in
     let n = length held in
-    let answer = g.T.ResponseTest.answer c.args.test.now (timings held) in
-    let p = g.C.Cost.prices c.args.cost.now in
+    let answer = g.T.ResponseTest.answer c.args.problem.test.now (timings held) in
+    let p = g.C.Cost.prices c.args.problem.cost.now in
     let costs = priced p held in
     let s = c.args.self.now in
     let best = ranked s.best in
@@ -118,11 +118,11 @@ returns-else-not-no_more g c =
 
 pub returns-in_default : goal.returns-in_default
 returns-in_default g c =
-    let l = c.args.tasks.now in
+    let l = c.args.problem.tasks.now in
     let held = plains l in
     let n = length held in
-    let answer = g.T.ResponseTest.answer c.args.test.now (timings held) in
-    let p = g.C.Cost.prices c.args.cost.now in
+    let answer = g.T.ResponseTest.answer c.args.problem.test.now (timings held) in
+    let p = g.C.Cost.prices c.args.problem.cost.now in
     let costs = priced p held in
     let s = c.args.self.now in
     let best = ranked s.best in

@@ -7,14 +7,14 @@ use Rattle.orders.specs.First.{cheapest}
 use Rattle.search.specs.Model.{priced}
 use Rattle.search.specs.Picks.{chosen, Among}
 use Rattle.search.proofs.Picking.{lacking_from}
-use Rattle.search.proofs.first.cheapest.Given as goal
+use Rattle.search.proofs.problem.Problem.cheapest.Given as goal
 
 abbrev pub invariant-loop-position : goal.invariant-loop-position
 invariant-loop-position g l =
-    let held = plains l.tasks in
+    let held = plains l.self.tasks.now in
     let n = length held in
-    let answer = g.T.ResponseTest.answer l.test (timings held) in
-    let costs = priced (g.C.Cost.prices l.cost) held in
+    let answer = g.T.ResponseTest.answer l.self.test.now (timings held) in
+    let costs = priced (g.C.Cost.prices l.self.cost.now) held in
     IfSome l.best (Among n l.unplaced.word)
     × ((lower : List ℕ) → word (unplaced n lower) ≡ l.unplaced.word
     → option_map chosen l.best ≡ cheapest n answer costs lower (lacking_from n lower l.position))

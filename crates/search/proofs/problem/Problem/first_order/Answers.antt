@@ -15,11 +15,11 @@ use Rattle.search.proofs.Bridges.{laws_of, monotone_of, held_of}
 use Rattle.search.proofs.Picking.{unplaced_less}
 use Rattle.search.proofs.Rankings.{zeros, brief_more}
 use Rattle.search.proofs.Lowers.{lower, timed, Filled, lower_none, lower_more, all_left, above_late, above_more, pick_free, word_full, take_full, order_full}
-use Rattle.search.proofs.first.first_order.Goals as goal
+use Rattle.search.proofs.problem.Problem.first_order.Goals as goal
 
 pub overflow_cast-order : goal.overflow_cast-order
 overflow_cast-order g c =
-    let l = c.args.tasks.now in
+    let l = c.args.self.tasks.now in
     let size = count_plain (items l) c.as_slice-held.result.now c.as_slice-held.ensures.items in
     let low : c.in_ok-pick.pick.position < 16
     = omega (arith, c.in_ok-pick.ensures.among.low, c.as_slice-held.ensures.few) in
@@ -27,7 +27,7 @@ overflow_cast-order g c =
 
 pub offset_bounds-times-pick : goal.offset_bounds-times-pick
 offset_bounds-times-pick g c =
-    let l = c.args.tasks.now in
+    let l = c.args.self.tasks.now in
     let size = count_plain (items l) c.as_slice-held.result.now c.as_slice-held.ensures.items in
     let low : c.in_ok-pick.pick.position < 16
     = omega (arith, c.in_ok-pick.ensures.among.low, c.as_slice-held.ensures.few) in
@@ -35,17 +35,17 @@ offset_bounds-times-pick g c =
 
 pub bounds-times-pick : goal.bounds-times-pick
 bounds-times-pick g c =
-    let l = c.args.tasks.now in
+    let l = c.args.self.tasks.now in
     let size = count_plain (items l) c.as_slice-held.result.now c.as_slice-held.ensures.items in
     omega (arith, c.in_ok-pick.ensures.among.low, c.as_slice-held.ensures.few)
 
 pub loop-level-init : goal.loop-level-init
 loop-level-init g c =
-    let l = c.args.tasks.now in
+    let l = c.args.self.tasks.now in
     let held = plains l in
     let n = length held in
-    let answer = g.T.ResponseTest.answer c.args.test.now (timings held) in
-    let costs = priced (g.C.Cost.prices c.args.cost.now) held in
+    let answer = g.T.ResponseTest.answer c.args.self.test.now (timings held) in
+    let costs = priced (g.C.Cost.prices c.args.self.cost.now) held in
     let slice = c.as_slice-held in
     let size = count_plain (items l) slice.result.now slice.ensures.items in
     let few = slice.ensures.few in
@@ -64,11 +64,11 @@ loop-level-init g c =
 
 pub loop-level-preserved : goal.loop-level-preserved
 loop-level-preserved g c =
-    let l = c.args.tasks.now in
+    let l = c.args.self.tasks.now in
     let held = plains l in
     let n = length held in
-    let answer = g.T.ResponseTest.answer c.args.test.now (timings held) in
-    let costs = priced (g.C.Cost.prices c.args.cost.now) held in
+    let answer = g.T.ResponseTest.answer c.args.self.test.now (timings held) in
+    let costs = priced (g.C.Cost.prices c.args.self.cost.now) held in
     let slice = c.as_slice-held in
     let size = count_plain (items l) slice.result.now slice.ensures.items in
     let few = slice.ensures.few in
@@ -98,11 +98,11 @@ loop-level-preserved g c =
 
 pub returns-in_err-pick : goal.returns-in_err-pick
 returns-in_err-pick g c =
-    let l = c.args.tasks.now in
+    let l = c.args.self.tasks.now in
     let held = plains l in
     let n = length held in
-    let answer = g.T.ResponseTest.answer c.args.test.now (timings held) in
-    let costs = priced (g.C.Cost.prices c.args.cost.now) held in
+    let answer = g.T.ResponseTest.answer c.args.self.test.now (timings held) in
+    let costs = priced (g.C.Cost.prices c.args.self.cost.now) held in
     let slice = c.as_slice-held in
     let size = count_plain (items l) slice.result.now slice.ensures.items in
     let few = slice.ensures.few in
@@ -112,13 +112,13 @@ returns-in_err-pick g c =
       value = ap (option_map ranked) c.from_residual.ensures
           ∙ sym (above_late n answer costs c.loop-level.level v c.loop-level.times c.loop-level-test.true (sym (c.in_err-pick.ensures.value v inv.4))) ∙ inv.5;
       order = subst (λ o. IfSome o (λ a. Order n (ranks a))) (sym c.from_residual.ensures) tt;
-      exact = λ all. first_order_is_exact _ n answer costs (monotone_of (g.T.Admission.admitted c.args.test.now) (g.T.ResponseTest.answer c.args.test.now) (g.met.T.ResponseTest.monotone c.args.test.now) held (held_of (items l) (g.T.Admission.admitted c.args.test.now) all));
-      greedy = first_order_is_greedy _ n answer costs (laws_of (g.C.Cost.prices c.args.cost.now) (g.met.C.Cost.lawful c.args.cost.now) held);
+      exact = λ all. first_order_is_exact _ n answer costs (monotone_of (g.T.Admission.admitted c.args.self.test.now) (g.T.ResponseTest.answer c.args.self.test.now) (g.met.T.ResponseTest.monotone c.args.self.test.now) held (held_of (items l) (g.T.Admission.admitted c.args.self.test.now) all));
+      greedy = first_order_is_greedy _ n answer costs (laws_of (g.C.Cost.prices c.args.self.cost.now) (g.met.C.Cost.lawful c.args.self.cost.now) held);
     }
 
 pub invariant_of-result : goal.invariant_of-result
 invariant_of-result g c =
-    let l = c.args.tasks.now in
+    let l = c.args.self.tasks.now in
     let n = length (plains l) in
     let slice = c.as_slice-held in
     let size = count_plain (items l) slice.result.now slice.ensures.items in
@@ -141,11 +141,11 @@ invariant_of-result g c =
 
 pub returns : goal.returns
 returns g c =
-    let l = c.args.tasks.now in
+    let l = c.args.self.tasks.now in
     let held = plains l in
     let n = length held in
-    let answer = g.T.ResponseTest.answer c.args.test.now (timings held) in
-    let costs = priced (g.C.Cost.prices c.args.cost.now) held in
+    let answer = g.T.ResponseTest.answer c.args.self.test.now (timings held) in
+    let costs = priced (g.C.Cost.prices c.args.self.cost.now) held in
     let slice = c.as_slice-held in
     let size = count_plain (items l) slice.result.now slice.ensures.items in
     let few = slice.ensures.few in
@@ -163,6 +163,6 @@ returns g c =
       value = ap (λ v. Some (timed times v)) (is ∙ sym whole)
           ∙ ap (λ k. first_above n answer costs k (timed times (lower n c.loop-level.level order))) (sym end) ∙ inv.5;
       order = order_full n w order few inv.0 bits front;
-      exact = λ all. first_order_is_exact _ n answer costs (monotone_of (g.T.Admission.admitted c.args.test.now) (g.T.ResponseTest.answer c.args.test.now) (g.met.T.ResponseTest.monotone c.args.test.now) held (held_of (items l) (g.T.Admission.admitted c.args.test.now) all));
-      greedy = first_order_is_greedy _ n answer costs (laws_of (g.C.Cost.prices c.args.cost.now) (g.met.C.Cost.lawful c.args.cost.now) held);
+      exact = λ all. first_order_is_exact _ n answer costs (monotone_of (g.T.Admission.admitted c.args.self.test.now) (g.T.ResponseTest.answer c.args.self.test.now) (g.met.T.ResponseTest.monotone c.args.self.test.now) held (held_of (items l) (g.T.Admission.admitted c.args.self.test.now) all));
+      greedy = first_order_is_greedy _ n answer costs (laws_of (g.C.Cost.prices c.args.self.cost.now) (g.met.C.Cost.lawful c.args.self.cost.now) held);
     }

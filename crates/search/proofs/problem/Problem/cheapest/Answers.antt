@@ -6,22 +6,25 @@ use Rattle.search.specs.Model.{priced}
 use Rattle.costs.proofs.Folds.{count_plain}
 use Rattle.search.proofs.Bridges.{asked}
 use Rattle.search.proofs.Picking.{lacking_from, lacking_none, cheapest_skip, cheapest_more, among_either, both_low}
-use Rattle.search.proofs.first.cheapest.Goals as goal
+use Rattle.search.proofs.problem.Problem.cheapest.Goals as goal
 
 pub cheaper-requires : goal.cheaper-requires
 cheaper-requires g c =
-    let l = c.args.tasks.now in
+    let l = c.args.self.tasks.now in
     let size = count_plain (items l) c.as_slice-held.result.now c.as_slice-held.ensures.items in
     let le = c.loop-position.auto.position in
-    (omega (arith, c.loop-position-test.true), both_low (length (plains l)) c.args.unplaced.word c.loop-position.best c.loop-position.invariant.0)
+    record {
+      pick = omega (arith, c.loop-position-test.true);
+      other = both_low (length (plains l)) c.args.unplaced.word c.loop-position.best c.loop-position.invariant.0;
+    }
 
 pub loop-position-init : goal.loop-position-init
 loop-position-init g c =
-    let l = c.args.tasks.now in
+    let l = c.args.self.tasks.now in
     let held = plains l in
     let n = length held in
-    let answer = g.T.ResponseTest.answer c.args.test.now (timings held) in
-    let costs = priced (g.C.Cost.prices c.args.cost.now) held in
+    let answer = g.T.ResponseTest.answer c.args.self.test.now (timings held) in
+    let costs = priced (g.C.Cost.prices c.args.self.cost.now) held in
     let slice = c.as_slice-held in
     let size = count_plain (items l) slice.result.now slice.ensures.items in
     let few = slice.ensures.few in
@@ -29,11 +32,11 @@ loop-position-init g c =
 
 pub loop-position-preserved-in-Some : goal.loop-position-preserved-in-Some
 loop-position-preserved-in-Some g c =
-    let l = c.args.tasks.now in
+    let l = c.args.self.tasks.now in
     let held = plains l in
     let n = length held in
-    let answer = g.T.ResponseTest.answer c.args.test.now (timings held) in
-    let costs = priced (g.C.Cost.prices c.args.cost.now) held in
+    let answer = g.T.ResponseTest.answer c.args.self.test.now (timings held) in
+    let costs = priced (g.C.Cost.prices c.args.self.cost.now) held in
     let slice = c.as_slice-held in
     let size = count_plain (items l) slice.result.now slice.ensures.items in
     let few = slice.ensures.few in
@@ -41,22 +44,22 @@ loop-position-preserved-in-Some g c =
     let w = c.args.unplaced.word in
     let inv = c.loop-position.invariant in
     let le = c.loop-position.auto.position in
-    let answered = c.in-Some.ensures ∙ asked (g.T.ResponseTest.answer c.args.test.now) (items l) slice.result.now slice.ensures.items (i - 1) c.without.result.word in
+    let answered = c.in-Some.ensures ∙ asked (g.T.ResponseTest.answer c.args.self.test.now) (items l) slice.result.now slice.ensures.items (i - 1) c.without-above.result.word in
     let member = sym c.contains.ensures ∙ c.if-contains.true in (
       among_either n w c.cheaper.result _ c.loop-position.best c.cheaper.ensures.either (record { low = omega arith; member = member; brief = search rules }) inv.0,
       λ lower e.
           c.cheaper.ensures.value ∙ ap₂ (cheaper costs (i - 1)) answered (inv.1 lower e)
-          ∙ sym (cheapest_more n answer costs lower w i e c.loop-position-test.true (omega arith) c.without.result.word
-          (c.without.ensures.removed (omega (arith, l.few))) member),
+          ∙ sym (cheapest_more n answer costs lower w i e c.loop-position-test.true (omega arith) c.without-above.result.word
+          (c.without-above.ensures.removed (omega (arith, l.few))) member),
     )
 
 pub loop-position-preserved-in_default : goal.loop-position-preserved-in_default
 loop-position-preserved-in_default g c =
-    let l = c.args.tasks.now in
+    let l = c.args.self.tasks.now in
     let held = plains l in
     let n = length held in
-    let answer = g.T.ResponseTest.answer c.args.test.now (timings held) in
-    let costs = priced (g.C.Cost.prices c.args.cost.now) held in
+    let answer = g.T.ResponseTest.answer c.args.self.test.now (timings held) in
+    let costs = priced (g.C.Cost.prices c.args.self.cost.now) held in
     let slice = c.as_slice-held in
     let size = count_plain (items l) slice.result.now slice.ensures.items in
     let few = slice.ensures.few in
@@ -64,22 +67,22 @@ loop-position-preserved-in_default g c =
     let w = c.args.unplaced.word in
     let inv = c.loop-position.invariant in
     let le = c.loop-position.auto.position in
-    let answered = c.in_default.ensures ∙ asked (g.T.ResponseTest.answer c.args.test.now) (items l) slice.result.now slice.ensures.items (i - 1) c.without.result.word in
+    let answered = c.in_default.ensures ∙ asked (g.T.ResponseTest.answer c.args.self.test.now) (items l) slice.result.now slice.ensures.items (i - 1) c.without-above.result.word in
     let member = sym c.contains.ensures ∙ c.if-contains.true in (
       inv.0,
       λ lower e.
           inv.1 lower e ∙ ap (λ o. cheaper costs (i - 1) o (cheapest n answer costs lower (lacking_from n lower i))) answered
-          ∙ sym (cheapest_more n answer costs lower w i e c.loop-position-test.true (omega arith) c.without.result.word
-          (c.without.ensures.removed (omega (arith, l.few))) member),
+          ∙ sym (cheapest_more n answer costs lower w i e c.loop-position-test.true (omega arith) c.without-above.result.word
+          (c.without-above.ensures.removed (omega (arith, l.few))) member),
     )
 
 pub loop-position-preserved : goal.loop-position-preserved
 loop-position-preserved g c =
-    let l = c.args.tasks.now in
+    let l = c.args.self.tasks.now in
     let held = plains l in
     let n = length held in
-    let answer = g.T.ResponseTest.answer c.args.test.now (timings held) in
-    let costs = priced (g.C.Cost.prices c.args.cost.now) held in
+    let answer = g.T.ResponseTest.answer c.args.self.test.now (timings held) in
+    let costs = priced (g.C.Cost.prices c.args.self.cost.now) held in
     let slice = c.as_slice-held in
     let size = count_plain (items l) slice.result.now slice.ensures.items in
     let few = slice.ensures.few in

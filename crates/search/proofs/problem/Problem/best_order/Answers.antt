@@ -1,0 +1,36 @@
+use Rattle.std.proofs.Common.{◌+◌, length, sym, ◌∙◌, subst, arith}
+use Rattle.tasks.specs.Lists.{items, plains}
+use Rattle.tasks.specs.Timing.{timings}
+use Rattle.orders.proofs.Firsts.{first_order_is_exact}
+use Rattle.search.specs.Model.{priced, first_over, BestOver}
+use Rattle.search.proofs.Bridges.{monotone_of, held_of}
+use Rattle.search.proofs.Reaches.{not_started, was_started}
+use Rattle.search.proofs.problem.Problem.best_order.Goals as goal
+
+pub returns-then-is_err : goal.returns-then-is_err
+returns-then-is_err g c all =
+    let held = plains c.args.self.tasks.now in
+    let answer = g.T.ResponseTest.answer c.args.self.test.now in
+    let admitted = g.T.Admission.admitted c.args.self.test.now in
+    let prices = g.C.Cost.prices c.args.self.cost.now in
+    let mono = monotone_of admitted answer (g.met.T.ResponseTest.monotone c.args.self.test.now) held (held_of (items c.args.self.tasks.now) admitted all) in
+    (first_order_is_exact _ (length held) (answer (timings held)) (priced prices held) mono).none_if
+    (not_started (first_over answer prices held) (length held) c.start.result _ _ (sym c.is_err.ensures.value ∙ c.if-is_err.true) c.start.ensures.started).no_first
+
+pub advance-requires : goal.advance-requires
+advance-requires g c =
+    let held = plains c.args.self.tasks.now in
+    let first = first_over (g.T.ResponseTest.answer c.args.self.test.now) (g.C.Cost.prices c.args.self.cost.now) held in
+    sym (was_started first (length held) c.start.result _ _ (sym c.is_err.ensures.value ∙ c.if-is_err.false) c.start.ensures.started).size
+
+pub returns : goal.returns
+returns g c all =
+    let held = plains c.args.self.tasks.now in
+    let answer = g.T.ResponseTest.answer c.args.self.test.now in
+    let prices = g.C.Cost.prices c.args.self.cost.now in
+    let from = was_started (first_over answer prices held) (length held) c.start.result _ _ (sym c.is_err.ensures.value ∙ c.if-is_err.false) c.start.ensures.started in
+    let count = c.vertex_bound.result in
+    let walked = c.advance.ensures in
+    let reached = walked.reached 0 (from.first, from.is_first, from.is_begun) in
+    let done = walked.ends (0 + count) reached (omega (arith, c.vertex_bound.ensures)) in
+    subst (BestOver answer prices held) (sym c.best.ensures) (walked.best (0 + count) reached all done)
