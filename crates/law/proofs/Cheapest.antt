@@ -56,12 +56,12 @@ module _ {V : Type 0} (w : Meaning V) (lawful : Lawful w) (tasks : List Candidat
 
 ended : (active : List Vertex) (s : State) (best : Assignment) → staged_by active s ≡ finished best → (active ≡ []) × (s.best ≡ best)
 ended [] s best h = (refl, cc)
-ended (v ∷ vs) s best h = let z : ◌≡◌ {A = ℕ} 0 1 = cc in absurd (omega arith)
+ended (v ∷ vs) s best h = cc
 
 module _ {V : Type 0} (w : Meaning V) (lawful : Lawful w) where
   best_found : (tasks : List Candidate) (stage : Stage) (best : Assignment) → Held w.admitted tasks → stage ≡ finished best
       → (stage ≡ open') ⊎ Searched w tasks stage → BestOrder (length tasks) (answers w tasks) (costs w tasks) best
-  best_found tasks stage best held e (inl o) = let z : ◌≡◌ {A = ℕ} 0 1 = cc in absurd (omega arith)
+  best_found tasks stage best held e (inl o) = cc
   best_found tasks stage best held e (inr s) =
       let last : State = state w tasks s.first s.examined in
       let h = ended last.active last best (sym s.is ∙ e) in

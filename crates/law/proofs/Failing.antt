@@ -1,5 +1,5 @@
 -- Start says that there is no order exactly when every order fails at some level.
-use Rattle.std.proofs.Common.{◌≡◌, ℕ, Bool, true, false, not, ltb, List, [], ◌∷◌, ◌++◌, length, is_some, Some, None, Err, Option, sym, refl, ap, ◌∙◌, append_assoc, append-nil, arith}
+use Rattle.std.proofs.Common.{◌≡◌, ℕ, Bool, true, false, not, ltb, List, [], ◌∷◌, ◌++◌, length, is_some, Some, None, Err, Option, refl, ap, ◌∙◌, append_assoc, append-nil}
 use Rattle.std.proofs.lemmas.Bool.{true≢false, ltb-true, lt-ltb}
 use Rattle.tasks.specs.declared.fault.Fault.TheVariants.{Plan}
 use Rattle.tasks.specs.declared.fault.PlanFault.TheVariants.{Searching, NoTask, NoOrder}
@@ -15,7 +15,6 @@ use Rattle.law.specs.declared.command.Outcome.TheVariants.{Started}
 use Rattle.law.specs.Meaning.{Meaning, Lawful, answers, costs}
 use Rattle.law.specs.Obey.{Model, is_searching, first_of, Point, reply, effect, decided}
 use Rattle.law.specs.Law.{Fails, NoOrderExactlyWhenNonePasses}
-use Rattle.law.proofs.Faults.{not_some}
 use Rattle.law.proofs.Laws.{monotone_held}
 
 -- ---- an order fails at some level exactly when it has no times
@@ -26,7 +25,7 @@ module _ (answer : Test) where
       (higher : List ℕ) × (task : ℕ) × (lower : List ℕ) × (o ≡ higher ++ (task ∷ lower)) × (answer task (word (above ++ higher)) ≡ None)
 
   fails_below : (above o : List ℕ) → times_below answer above o ≡ None → FailsBelow above o
-  fails_below above [] h = not_some h
+  fails_below above [] h = cc
   fails_below above (i ∷ is) h = go (answer i (word above)) refl (times_below answer (above ++ (i ∷ [])) is) (fails_below (above ++ (i ∷ [])) is) h
     where
       go : (x : Option ℕ) → answer i (word above) ≡ x → (y : Option (List ℕ)) → (y ≡ None → FailsBelow (above ++ (i ∷ [])) is)
@@ -35,7 +34,7 @@ module _ (answer : Test) where
       go (Some r) e None f g =
           let more = f refl in
           (i ∷ more.0, more.1, more.2, ap (λ l. i ∷ l) more.3, rw append_assoc at more.4)
-      go (Some r) e (Some rs) f g = not_some g
+      go (Some r) e (Some rs) f g = cc
 
   both_none : (x : Option ℕ) (y : Option (List ℕ)) → y ≡ None → both x y ≡ None
   both_none None y h = refl
@@ -63,10 +62,10 @@ module _ (answer : Test) where
 said : (s t f : Bool) (p : Point) (o : Outcome) (m : Model) (b : List ℕ)
     → (decided (unless (not s) (Plan Searching) (unless t (Plan NoTask) (unless f (Plan NoOrder) None))) p (reply o m b)).answer ≡ Err (Plan NoOrder)
     → (s ≡ false) × (t ≡ true) × (f ≡ false)
-said true t f p o m b h = let z : ◌≡◌ {A = ℕ} 0 1 = cc in absurd (omega arith)
-said false false f p o m b h = let z : ◌≡◌ {A = ℕ} 0 1 = cc in absurd (omega arith)
+said true t f p o m b h = cc
+said false false f p o m b h = cc
 said false true false p o m b h = (refl, refl, refl)
-said false true true p o m b h = let z : ◌≡◌ {A = ℕ} 0 1 = cc in absurd (omega arith)
+said false true true p o m b h = cc
 
 says : (s t f : Bool) (p : Point) (o : Outcome) (m : Model) (b : List ℕ) → s ≡ false → t ≡ true → f ≡ false
     → (decided (unless (not s) (Plan Searching) (unless t (Plan NoTask) (unless f (Plan NoOrder) None))) p (reply o m b)).answer ≡ Err (Plan NoOrder)
@@ -89,7 +88,7 @@ module _ {V : Type 0} (w : Meaning V) (lawful : Lawful w) where
         go (Some ts) f = absurd (exact.none_if e (record { order = o; times = ts }) (order, f))
 
     no_first : ((o : List ℕ) → Order (length tasks) o → Fails (answers w tasks) o) → first_of w tasks ≡ None
-    no_first fail = exact.only_if (λ a passes. not_some (sym passes.1 ∙ no_times (answers w tasks) a.order (fail a.order passes.0)))
+    no_first fail = exact.only_if (λ a passes. cc (passes.1, no_times (answers w tasks) a.order (fail a.order passes.0)))
 
   pub no_order : (p : Point) → Held w.admitted p.plan.tasks → NoOrderExactlyWhenNonePasses w p
   no_order p holds =

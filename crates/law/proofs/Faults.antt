@@ -1,10 +1,7 @@
 -- What follows where there is no fault, and where there is one.
-use Rattle.std.proofs.Common.{◌≡◌, ℕ, Some, None, Err, Option, refl, arith}
+use Rattle.std.proofs.Common.{◌≡◌, Some, None, Err, Option, refl}
 use Rattle.tasks.specs.declared.fault.Fault.{Fault}
 use Rattle.law.specs.Obey.{Point, Reply, decided}
-
-pub not_some : {F : Type 0} {f : F} {P : Type 0} → Some f ≡ None → P
-not_some e = let z : ◌≡◌ {A = ℕ} 0 1 = cc in absurd (omega arith)
 
 -- what holds of the reply, accepted or refused
 pub decided_both : (o : Option Fault) (p : Point) (r : Reply) (P : Reply → Type 0) → (o ≡ None → P r)

@@ -46,7 +46,7 @@ module _ (tasks : List Timing) (workload : List (List Job)) where
   pub held_holds : (s : State) (l : ℕ) → held tasks workload s ≡ Some l → Holds tasks workload s l
   held_holds s l e =
       elim (some_or_none s.last) [
-        | inr none ↦ absurd (let z : ◌≡◌ {A = ℕ} 0 1 = cc in omega arith)
+        | inr none ↦ cc
         | inl m ↦
             elim (cases_Bool (in_section tasks workload s m.0)) [
               | inl inside ↦
@@ -54,7 +54,7 @@ module _ (tasks : List Timing) (workload : List (List Job)) where
                   let here : in_section tasks workload s l ≡ true = sym (ap (in_section tasks workload s) same) ∙ inside in
                   let parts = and_parts _ _ here in
                   record { is_last = m.1 ∙ ap Some same; begun = ltb-true _ _ parts.0; within = ltb-true _ _ parts.1 }
-              | inr outside ↦ absurd (let z : ◌≡◌ {A = ℕ} 0 1 = cc m.1 in omega arith)
+              | inr outside ↦ cc m.1
             ]
       ]
 
@@ -127,7 +127,7 @@ module _ (tasks : List Timing) (workload : List (List Job)) (legal : WorkloadOf 
   sane zero =
       record {
         levels = length-replicate (length tasks) 0;
-        known = λ l e. absurd (let z : ◌≡◌ {A = ℕ} 0 1 = cc in omega arith);
+        known = λ l e. cc;
         causal = λ l l-in. omega (arith, get_or-replicate {A = ℕ} (length tasks) l 0 0 l-in);
       }
   sane (suc now) = sane_run now _ _ (sane now) (λ c. chosen_pending now _ c (sane now))

@@ -1,5 +1,6 @@
 -- The first order is none exactly if every order fails, and else it passes.
 use Rattle.std.proofs.Common.{◌≡◌, ℕ, zero, suc, ◌+◌, ◌<◌, ◌≤◌, ◌⊎◌, List, [], ◌∷◌, ◌++◌, length, Some, None, Option, sym, refl, ap, ◌∙◌, subst, inl, inr, arith}
+use Rattle.std.proofs.lemmas.Option.{none-some, same_Some}
 use Rattle.std.proofs.lemmas.Bool.{cases_eq, cases_lt, cases_cond}
 use Rattle.orders.specs.Orders.{word, count, unplaced, Order, Test, Monotone, Assignment, Passes}
 use Rattle.orders.specs.Costs.{Cost}
@@ -7,7 +8,7 @@ use Rattle.orders.specs.First.{Choice, from, cheaper, cheapest, first_above, fir
 use Rattle.orders.specs.Theorems.{under_others, FirstOrderIsExact}
 use Rattle.orders.proofs.Counts.{front_nothing, same_self, same_other, count_append, count_upto, Front, Free, unplaced_free, all_counted, front_cons, length_unplaced, order_from_front, order_alike, front_of_order, count_unplaced, some_task}
 use Rattle.orders.proofs.Words.{answered_under_part, Sooner}
-use Rattle.orders.proofs.Levels.{some_injective, none_is_not_some, Timed, timed_from, times_from, timed_alike, Split, split, answered_at}
+use Rattle.orders.proofs.Levels.{Timed, timed_from, times_from, timed_alike, Split, split, answered_at}
 
 -- ---- the choice at a level
 
@@ -17,7 +18,7 @@ pub record Chosen (n : ℕ) (answer : Test) (lower is : List ℕ) (d : Choice) :
 
 module _ {V : Type 0} (n : ℕ) (answer : Test) (c : Cost V) (lower : List ℕ) where
   pub chosen : (is : List ℕ) (d : Choice) → cheapest n answer c lower is ≡ Some d → Chosen n answer lower is d
-  chosen [] d e = absurd (none_is_not_some d e)
+  chosen [] d e = absurd (none-some d e)
   chosen (i ∷ is) d e = go (under_others n answer lower i) refl (cheapest n answer c lower is) (chosen is) e
     where
       later : (k : Choice) → Chosen n answer lower is k → Chosen n answer lower (i ∷ is) k
@@ -29,9 +30,9 @@ module _ {V : Type 0} (n : ℕ) (answer : Test) (c : Cost V) (lower : List ℕ) 
       go : (a : Option ℕ) → under_others n answer lower i ≡ a → (o : Option Choice) → ((k : Choice) → o ≡ Some k → Chosen n answer lower is k)
           → cheaper c i a o ≡ Some d → Chosen n answer lower (i ∷ is) d
       go None ea o rest e = later d (rest d e)
-      go (Some r) ea None rest e = subst (Chosen n answer lower (i ∷ is)) (some_injective (record { task = i; time = r }) d e) (here r ea)
+      go (Some r) ea None rest e = subst (Chosen n answer lower (i ∷ is)) (same_Some (record { task = i; time = r }) d e) (here r ea)
       go (Some r) ea (Some k) rest e =
-          elim (cases_cond (c.no_more (c.of i r) (c.of k.task k.time)) (record { task = i; time = r }) k d (sym (some_injective _ d e))) [
+          elim (cases_cond (c.no_more (c.of i r) (c.of k.task k.time)) (record { task = i; time = r }) k d (sym (same_Some _ d e))) [
             | inl q ↦ subst (Chosen n answer lower (i ∷ is)) (sym q) (here r ea)
             | inr q ↦ subst (Chosen n answer lower (i ∷ is)) (sym q) (later k (rest k refl))
           ]
@@ -42,11 +43,11 @@ module _ {V : Type 0} (n : ℕ) (answer : Test) (c : Cost V) (lower : List ℕ) 
     where
       go : (a : Option ℕ) → under_others n answer lower i ≡ a → (o : Option Choice) → (o ≡ None → 0 < count j is → ⊥) → cheaper c i a o ≡ None → ⊥
       go None ea o rest e = elim (cases_eq j i) [
-        | inl s ↦ none_is_not_some r (sym ea ∙ ap (under_others n answer lower) (sym s) ∙ q)
+        | inl s ↦ none-some r (sym ea ∙ ap (under_others n answer lower) (sym s) ∙ q)
         | inr ne ↦ rest e (omega (arith, same_other j i ne))
       ]
-      go (Some s) ea None rest e = none_is_not_some _ (sym e)
-      go (Some s) ea (Some k) rest e = none_is_not_some _ (sym e)
+      go (Some s) ea None rest e = none-some _ (sym e)
+      go (Some s) ea (Some k) rest e = none-some _ (sym e)
 
 -- ---- the levels assigned so far, from below, are timed under all other tasks
 
@@ -155,20 +156,20 @@ module _ {V : Type 0} (n : ℕ) (answer : Test) (c : Cost V) (mono : Monotone n 
               (front_of_order n l.upper (i ∷ l.lower) order) fewer at.1
 
   above_passes : (k : ℕ) (a b : Assignment) → Low n answer a → length a.order + k ≡ n → first_above n answer c k a ≡ Some b → Passes n answer b
-  above_passes zero a b low e h = subst (Passes n answer) (some_injective a b h) (low_passes n answer a low (omega arith))
+  above_passes zero a b low e h = subst (Passes n answer) (same_Some a b h) (low_passes n answer a low (omega arith))
   above_passes (suc k) a b low e h = go (cheapest n answer c a.order (unplaced n a.order)) refl h (above_passes k)
     where
       go : (o : Option Choice) → cheapest n answer c a.order (unplaced n a.order) ≡ o
           → from o (λ d. first_above n answer c k (record { order = d.task ∷ a.order; times = d.time ∷ a.times })) ≡ Some b
           → ((a b : Assignment) → Low n answer a → length a.order + k ≡ n → first_above n answer c k a ≡ Some b → Passes n answer b)
           → Passes n answer b
-      go None q h rest = absurd (none_is_not_some b h)
+      go None q h rest = absurd (none-some b h)
       go (Some d) q h rest =
           rest (record { order = d.task ∷ a.order; times = d.time ∷ a.times }) b
           (low_more n answer a d low (chosen n answer c a.order (unplaced n a.order) d q)) (omega arith) h
 
   above_none : (k : ℕ) (a b : Assignment) → Low n answer a → length a.order + k ≡ n → first_above n answer c k a ≡ None → Passes n answer b → ⊥
-  above_none zero a b low e h p = none_is_not_some a (sym h)
+  above_none zero a b low e h p = none-some a (sym h)
   above_none (suc k) a b low e h p = go (cheapest n answer c a.order (unplaced n a.order)) refl h (above_none k)
     where
       go : (o : Option Choice) → cheapest n answer c a.order (unplaced n a.order) ≡ o

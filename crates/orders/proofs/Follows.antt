@@ -1,5 +1,6 @@
 -- The search keeps the times of the ancestors of its vertices, and these are right: it follows the search over paths.
 use Rattle.std.proofs.Common.{◌≡◌, ℕ, zero, suc, Bool, true, false, cond, eqb, List, [], ◌∷◌, ◌++◌, map, length, Some, None, Option, sym, refl, ap, ◌∙◌, subst, append_assoc, append-nil, arith}
+use Rattle.std.proofs.lemmas.Option.{none-some}
 use Rattle.std.specs.List.{AllByRecursion}
 use Rattle.std.proofs.ByRecursion.{All-append}
 use Rattle.std.proofs.lemmas.List.{map-append, length-map}
@@ -7,7 +8,7 @@ use Rattle.orders.specs.Orders.{word, unplaced, Test, Assignment, times}
 use Rattle.orders.specs.Costs.{Cost, cost}
 use Rattle.orders.specs.Search.{Vertex, State, nothing_placed, below, entering, begun, bound, better, branched, examined, examine, examine_active, steps}
 use Rattle.orders.specs.Theorems.{SearchEnds, SearchIsOptimal, StackStaysSmall, OnlyOwnTaskLate}
-use Rattle.orders.proofs.Levels.{none_is_not_some, Timed, timed_from, times_from, Split, split, answered_at}
+use Rattle.orders.proofs.Levels.{Timed, timed_from, times_from, Split, split, answered_at}
 use Rattle.orders.proofs.Steps.{all_over}
 use Rattle.orders.proofs.Ends.{paths_end}
 use Rattle.orders.proofs.Optimal.{paths_optimal}
@@ -36,7 +37,7 @@ module _ (answer : Test) (i : ℕ) where
 
   late_more : (up : List ℕ) → answer i (word up) ≡ None → (o : Option (List ℕ)) → times answer (up ++ (i ∷ [])) ≡ o → o ≡ None
   late_more up h None e = refl
-  late_more up h (Some ts) e = absurd (none_is_not_some at.0 (sym h ∙ at.1))
+  late_more up h (Some ts) e = absurd (none-some at.0 (sym h ∙ at.1))
     where
       levels : Split answer [] up (i ∷ []) ts
       levels = split answer [] up (i ∷ []) ts (timed_from answer [] (up ++ (i ∷ [])) ts e)
@@ -145,7 +146,7 @@ module _ {V : Type 0} (n : ℕ) (answer : Test) (c : Cost V) where
 
 none_from : (vs : List Vertex) → map path vs ≡ [] → vs ≡ []
 none_from [] e = refl
-none_from (v ∷ vs) e = absurd (let z : ◌≡◌ {A = ℕ} 0 1 = cc in omega arith)
+none_from (v ∷ vs) e = cc
 
 pub search_ends : (V : Type 0) → SearchEnds V
 unfolding forget
@@ -172,7 +173,7 @@ only_more : (answer : Test) (i : ℕ) (up ts : List ℕ) → times answer up ≡
     → (o : Option ℕ) → answer i (word up) ≡ o → o ≡ None
 unfolding more
 only_more answer i up ts e h None q = refl
-only_more answer i up ts e h (Some t) q = absurd (none_is_not_some (ts ++ (t ∷ [])) (sym h ∙ times_more answer i up ts e (Some t) q))
+only_more answer i up ts e h (Some t) q = absurd (none-some (ts ++ (t ∷ [])) (sym h ∙ times_more answer i up ts e (Some t) q))
 
 pub only_own_task_late : (V : Type 0) → OnlyOwnTaskLate V
 unfolding Timely

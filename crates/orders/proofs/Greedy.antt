@@ -1,12 +1,12 @@
 -- Each level of the first order has the task of least cost, and on a tie the smallest.
 use Rattle.std.proofs.Common.{◌≡◌, ℕ, zero, suc, ◌<◌, ◌≤◌, Bool, ◌⊎◌, List, [], ◌∷◌, ◌++◌, Some, None, filter, Option, sym, refl, ap, ◌∙◌, subst, ap₂, inl, inr, arith}
+use Rattle.std.proofs.lemmas.Option.{none-some, same_Some}
 use Rattle.std.proofs.lemmas.Bool.{both_ways, cases_eq, cases_lt, cond_both}
 use Rattle.orders.specs.Orders.{count, upto, unplaced, Test, Assignment}
 use Rattle.orders.specs.Costs.{Cost, Laws, NoMore}
 use Rattle.orders.specs.First.{Choice, from, cheaper, cheapest, first_above}
 use Rattle.orders.specs.Theorems.{under_others, LeastChoice, FirstOrderIsGreedy}
 use Rattle.orders.proofs.Counts.{same_self, same_other, count_append, count_upto, count_upto_else, count_unplaced, count_kept_le}
-use Rattle.orders.proofs.Levels.{some_injective, none_is_not_some}
 use Rattle.orders.proofs.Firsts.{chosen, none_answered}
 use Rattle.orders.proofs.Bounds.{no_more_self, less_else}
 
@@ -61,12 +61,12 @@ module _ {V : Type 0} (n : ℕ) (answer : Test) (c : Cost V) (laws : Laws c) (lo
   price d = c.of d.task d.time
 
   cheapest_least : (is : List ℕ) → Ascending is → (d : Choice) → cheapest n answer c lower is ≡ Some d → Least n answer c lower is d
-  cheapest_least [] a d e = absurd (none_is_not_some d e)
+  cheapest_least [] a d e = absurd (none-some d e)
   cheapest_least (i ∷ is) a d e = go (answer_to i) refl (cheapest n answer c lower is) (cheapest_least is a.1) (none_answered n answer c lower is) e
     where
       -- the head of the list, as one that is answered
       head : (j r s : ℕ) → answer_to i ≡ Some r → answer_to j ≡ Some s → j ≡ i → c.of i r ≡ c.of j s
-      head j r s er es e = ap₂ c.of (sym e) (some_injective r s (sym er ∙ ap answer_to (sym e) ∙ es))
+      head j r s er es e = ap₂ c.of (sym e) (same_Some r s (sym er ∙ ap answer_to (sym e) ∙ es))
 
       tail : (k : Choice) → Least n answer c lower is k
           → ((j s : ℕ) → answer_to j ≡ Some s → j ≡ i → NoMore c (price k) (c.of j s))
@@ -89,13 +89,13 @@ module _ {V : Type 0} (n : ℕ) (answer : Test) (c : Cost V) (laws : Laws c) (lo
       go : (r : Option ℕ) → answer_to i ≡ r → (o : Option Choice) → ((k : Choice) → o ≡ Some k → Least n answer c lower is k)
           → (o ≡ None → (j s : ℕ) → 0 < count j is → answer_to j ≡ Some s → ⊥) → cheaper c i r o ≡ Some d → Least n answer c lower (i ∷ is) d
       go None er o some none e =
-          tail d (some d e) (λ j s q h. absurd (none_is_not_some s (sym er ∙ ap answer_to (sym h) ∙ q)))
-          (λ j s q h m. absurd (none_is_not_some s (sym er ∙ ap answer_to (sym h) ∙ q)))
+          tail d (some d e) (λ j s q h. absurd (none-some s (sym er ∙ ap answer_to (sym h) ∙ q)))
+          (λ j s q h m. absurd (none-some s (sym er ∙ ap answer_to (sym h) ∙ q)))
       go (Some r) er None some none e =
-          subst (Least n answer c lower (i ∷ is)) (some_injective (record { task = i; time = r }) d e)
+          subst (Least n answer c lower (i ∷ is)) (same_Some (record { task = i; time = r }) d e)
           (first r er (λ j s l q. absurd (none refl j s l q)))
       go (Some r) er (Some k) some none e =
-          subst (Least n answer c lower (i ∷ is)) (some_injective _ d e)
+          subst (Least n answer c lower (i ∷ is)) (same_Some _ d e)
           (cond_both (c.no_more (c.of i r) (price k)) (record { task = i; time = r }) k (Least n answer c lower (i ∷ is))
           (λ t. first r er (λ j s l q. laws.chain (c.of i r) (price k) (c.of j s) t ((some k refl).least j s l q)))
           (λ t. tail k (some k refl)
@@ -132,19 +132,19 @@ module _ {V : Type 0} (n : ℕ) (answer : Test) (c : Cost V) (laws : Laws c) whe
   greedy_more o d e g (u ∷ upper) lower i q = let l : o ≡ upper ++ (i ∷ lower) = cc in g upper lower i l
 
   above_greedy : (k : ℕ) (a b : Assignment) → Greedy a.order → first_above n answer c k a ≡ Some b → Greedy b.order
-  above_greedy zero a b g e = subst (λ x. Greedy x.order) (some_injective a b e) g
+  above_greedy zero a b g e = subst (λ x. Greedy x.order) (same_Some a b e) g
   above_greedy (suc k) a b g e = go (cheapest n answer c a.order (unplaced n a.order)) refl e (above_greedy k)
     where
       go : (o : Option Choice) → cheapest n answer c a.order (unplaced n a.order) ≡ o
           → from o (λ d. first_above n answer c k (record { order = d.task ∷ a.order; times = d.time ∷ a.times })) ≡ Some b
           → ((a b : Assignment) → Greedy a.order → first_above n answer c k a ≡ Some b → Greedy b.order) → Greedy b.order
-      go None q h rest = absurd (none_is_not_some b h)
+      go None q h rest = absurd (none-some b h)
       go (Some d) q h rest =
           rest (record { order = d.task ∷ a.order; times = d.time ∷ a.times }) b (greedy_more a.order d q g) h
 
   nothing_greedy : Greedy []
-  nothing_greedy [] lower i q = absurd (let z : ◌≡◌ {A = ℕ} 0 1 = cc in omega arith)
-  nothing_greedy (u ∷ upper) lower i q = absurd (let z : ◌≡◌ {A = ℕ} 0 1 = cc in omega arith)
+  nothing_greedy [] lower i q = cc
+  nothing_greedy (u ∷ upper) lower i q = cc
 
 pub first_order_is_greedy : (V : Type 0) → FirstOrderIsGreedy V
 first_order_is_greedy V n answer c laws a e =

@@ -1,14 +1,9 @@
 -- The response times of tasks at levels below others, as a relation that is taken apart level by level.
 use Rattle.std.proofs.Common.{◌≡◌, ℕ, suc, List, [], ◌∷◌, ◌++◌, length, Some, None, Option, sym, refl, ap, ◌∙◌, subst, append_assoc, append-nil, arith}
+use Rattle.std.proofs.lemmas.Option.{none-some, same_Some}
 use Rattle.orders.specs.Orders.{word, count, Test, both, times_below}
 use Rattle.orders.proofs.Counts.{count_append}
 use Rattle.orders.proofs.Words.{word_alike}
-
-pub some_injective : {A : Type 0} (x y : A) → ◌≡◌ {A = Option A} (Some x) (Some y) → x ≡ y
-some_injective x y e = cc
-
-pub none_is_not_some : {A : Type 0} (x : A) → ◌≡◌ {A = Option A} None (Some x) → ⊥
-none_is_not_some x e = let z : ◌≡◌ {A = ℕ} 0 1 = cc in omega arith
 
 -- both answers are there
 pub record Both (a : Option ℕ) (b : Option (List ℕ)) (ts : List ℕ) : Type 0 where
@@ -19,9 +14,9 @@ pub record Both (a : Option ℕ) (b : Option (List ℕ)) (ts : List ℕ) : Type 
   pub is : ts ≡ head ∷ tail
 
 pub both_are : (a : Option ℕ) (b : Option (List ℕ)) (ts : List ℕ) → both a b ≡ Some ts → Both a b ts
-both_are None b ts e = absurd (none_is_not_some ts e)
-both_are (Some r) None ts e = absurd (none_is_not_some ts e)
-both_are (Some r) (Some rs) ts e = record { head = r; tail = rs; is_head = refl; is_tail = refl; is = sym (some_injective (r ∷ rs) ts e) }
+both_are None b ts e = absurd (none-some ts e)
+both_are (Some r) None ts e = absurd (none-some ts e)
+both_are (Some r) (Some rs) ts e = record { head = r; tail = rs; is_head = refl; is_tail = refl; is = sym (same_Some (r ∷ rs) ts e) }
 
 module _ (answer : Test) where
   -- tasks have these response times, level by level below the tasks `above`
@@ -32,7 +27,7 @@ module _ (answer : Test) where
   Timed above (i ∷ is) (t ∷ ts) = (answer i (word above) ≡ Some t) × Timed (above ++ (i ∷ [])) is ts
 
   pub timed_from : (above is ts : List ℕ) → times_below answer above is ≡ Some ts → Timed above is ts
-  timed_from above [] ts e = subst (Timed above []) (some_injective [] ts e) tt
+  timed_from above [] ts e = subst (Timed above []) (same_Some [] ts e) tt
   timed_from above (i ∷ is) ts e = go (both_are (answer i (word above)) (times_below answer (above ++ (i ∷ [])) is) ts e) (timed_from (above ++ (i ∷ [])) is)
     where
       go : Both (answer i (word above)) (times_below answer (above ++ (i ∷ [])) is) ts

@@ -1,6 +1,7 @@
 -- The search is right: until the end, an order that passes costs at least as much as the best one or extends an active
 -- vertex.
 use Rattle.std.proofs.Common.{◌≡◌, ℕ, zero, suc, ◌<◌, Bool, ◌⊎◌, List, [], ◌∷◌, ◌++◌, map, length, Some, sym, refl, ap, ◌∙◌, subst, ap₂, inl, inr, append_assoc, append-nil, arith, length-append}
+use Rattle.std.proofs.lemmas.Option.{none-some, same_Some}
 use Rattle.std.specs.List.{AllByRecursion}
 use Rattle.std.proofs.lemmas.Bool.{cond_both, cases_eq}
 use Rattle.std.proofs.ByRecursion.{All-append}
@@ -9,7 +10,7 @@ use Rattle.orders.specs.Costs.{Cost, Laws, NoMore, cost}
 use Rattle.orders.specs.Search.{better, bound}
 use Rattle.orders.proofs.Paths.{Path, Paths, entering, begun, examine, examine_active, steps, PathsOptimal}
 use Rattle.orders.proofs.Counts.{front_nothing, same_self, same_other, count_append, Front, front_of_order, all_counted, order_from_front, order_alike, length_order}
-use Rattle.orders.proofs.Levels.{some_injective, none_is_not_some, Timed, timed_from, times_from, Split, split, length_timed}
+use Rattle.orders.proofs.Levels.{Timed, timed_from, times_from, Split, split, length_timed}
 use Rattle.orders.proofs.Firsts.{first_order_is_exact}
 use Rattle.orders.proofs.Steps.{after_examined, fronts_enter}
 use Rattle.orders.proofs.Bounds.{no_more_self, less_else, Bounded, bounded}
@@ -88,7 +89,7 @@ module _ {V : Type 0} (n : ℕ) (answer : Test) (c : Cost V) (mono : Monotone n 
       x = extended a v p e
 
       same : ts ≡ x.levels.upper
-      same = some_injective ts x.levels.upper (sym et ∙ x.timed)
+      same = same_Some ts x.levels.upper (sym et ∙ x.timed)
 
       k : Bounded n answer c mono laws v x.levels.upper x.rest (x.levels.upper ++ x.levels.lower)
       k = bounded n answer c mono laws v x.rest x.levels.upper x.levels.lower (subst (Order n) x.is p.0)
@@ -116,7 +117,7 @@ module _ {V : Type 0} (n : ℕ) (answer : Test) (c : Cost V) (mono : Monotone n 
   -- an order that extends a full vertex is the vertex
   same_price : (a : Assignment) (v : Path) (ts : List ℕ) → Passes n answer a → Extends a.order v → length v ≡ n → times answer v ≡ Some ts
       → cost c v ts ≡ price n answer c a
-  same_price a v ts p e l et = ap₂ (cost c) is (some_injective ts a.times (sym et ∙ ap (times answer) is ∙ p.1))
+  same_price a v ts p e l et = ap₂ (cost c) is (same_Some ts a.times (sym et ∙ ap (times answer) is ∙ p.1))
     where
       full : (rest : List ℕ) → a.order ≡ v ++ rest → v ≡ a.order
       full [] q = sym (q ∙ append-nil v)
@@ -129,13 +130,13 @@ module _ {V : Type 0} (n : ℕ) (answer : Test) (c : Cost V) (mono : Monotone n 
       → Sound n answer c (examine_active n answer c best active)
   examine_sound best [] h = h
   examine_sound best (v ∷ rest) h = after_examined n answer c best rest v (Sound n answer c) (record {
-    late = λ e. dropped (λ a p x. absurd (none_is_not_some _ (sym e ∙ (extended a v p x).timed)));
+    late = λ e. dropped (λ a p x. absurd (none-some _ (sym e ∙ (extended a v p x).timed)));
     last = λ ts e l. replaced ts e l;
-    late_below = λ ts e eb. dropped (λ a p x. absurd (none_is_not_some _ (sym eb ∙ (extended_bound a v ts p x e).1)));
+    late_below = λ ts e eb. dropped (λ a p x. absurd (none-some _ (sym eb ∙ (extended_bound a v ts p x e).1)));
     no_better = λ ts b e eb q. dropped (λ a p x.
         let k = extended_bound a v ts p x e in
         laws.chain (price n answer c best) b (price n answer c a) q
-        (subst (λ y. NoMore c y (price n answer c a)) (some_injective k.0 b (sym k.1 ∙ eb)) k.2));
+        (subst (λ y. NoMore c y (price n answer c a)) (same_Some k.0 b (sym k.1 ∙ eb)) k.2));
     branch = λ ts e ne. record {
       passes = h.passes;
       fronts = All-append (Front n) (entering n v) rest (fronts_enter n v h.fronts.0) h.fronts.1;

@@ -2,7 +2,8 @@
 use Rattle.std.specs.Prelude.{◌≡◌, ℕ, zero, suc, ◌+◌, ◌*◌, ◌/◌, ◌%◌, ◌<◌, ◌≤◌, min, true, List, [], ◌∷◌, map, length, Some, None, ◌==◌, ◌≢◌, nat_eq, nat_le, slice_index_or}
 use Rattle.std.proofs.Common.{sym, ◌∙◌, ap, inl, inr, div-add-mod', mul-le-mul_left, mul-le-mul_right, add-mul, arith}
 use Rattle.std.proofs.lemmas.List.{get_or-map, length-map}
-use Rattle.std.proofs.lemmas.Bool.{cases_lt, cond-true, cond-false, le-leb, lt-leb, eq-eqb, ne_eqb, both_ways}
+use Rattle.std.proofs.lemmas.Bool.{cases_lt, cond-true, cond-false, le-leb, leb-true, lt-leb, eq-eqb, ne_eqb, both_ways}
+use Rattle.std.proofs.lemmas.Option.{cond_some}
 use Rattle.tasks.specs.declared.task.Task.{Task}
 use Rattle.tasks.specs.Numbers.{ceiling, up_to}
 use Rattle.tasks.specs.Sets.{holds}
@@ -96,13 +97,10 @@ pub up_to_at : (limit n : ℕ) → n ≤ limit → up_to limit n ≡ Some n
 up_to_at limit n l = cond-true (nat_le n limit) (Some n) None (le-leb n limit l)
 
 pub up_to_is : (limit n x : ℕ) → up_to limit n ≡ Some x → (x ≡ n) × (n ≤ limit)
-up_to_is limit n x e = elim (cases_lt limit n) [
-  | inl l ↦ let o = up_to_past limit n l in let z : ◌≡◌ {A = ℕ} 0 1 = cc in absurd (omega arith)
-  | inr l ↦ let o = up_to_at limit n l in (cc, l)
-]
+up_to_is limit n x e = let within = cond_some (nat_le n limit) n x e in (sym within.1, leb-true n limit within.0)
 
 pub up_to_isnt : (limit n : ℕ) → up_to limit n ≡ None → limit < n
 up_to_isnt limit n e = elim (cases_lt limit n) [
   | inl l ↦ l
-  | inr l ↦ let o = up_to_at limit n l in let z : ◌≡◌ {A = ℕ} 0 1 = cc in absurd (omega arith)
+  | inr l ↦ let o = up_to_at limit n l in cc
 ]

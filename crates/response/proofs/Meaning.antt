@@ -253,8 +253,7 @@ module _ (ts : List Timing) (i h : ℕ) (legal : AllLegal ts) (l : i < length ts
   window_late : window ts i h ≡ None → (q : ℕ) (w : ℕ → ℕ) → BusyWindow ts i h q w → ⊥
   window_late e q w b =
       let s = answer_most ts i h q w b (at ts i).deadline b.in_time in
-      let z : ◌≡◌ {A = ℕ} 0 1 = cc (e, s.1) in
-      omega arith
+      cc (e, s.1)
 
   window_unending : ((q : ℕ) (w : ℕ → ℕ) → BusyWindow ts i h q w → ⊥) → window ts i h ≡ None
   window_unending none = go (window ts i h) refl

@@ -34,7 +34,7 @@ module _ (ts : List Timing) (i h : ℕ) where
   jobs r e = go (least (closes ts i h) 64) refl
     where
       go : (o : Option ℕ) → least (closes ts i h) 64 ≡ o → (n : ℕ) × (least (closes ts i h) 64 ≡ Some n) × (largest (delay ts i h) n ≡ Some r)
-      go None g = let x = window_none g in let z : ◌≡◌ {A = ℕ} 0 1 = cc in absurd (omega arith)
+      go None g = let x = window_none g in cc
       go (Some n) g = (n, g, sym (window_at n g) ∙ e)
 
   -- a job with a delay has an end
@@ -42,7 +42,7 @@ module _ (ts : List Timing) (i h : ℕ) where
   ended n b e = go (busy ts i h n) refl
     where
       go : (o : Option ℕ) → busy ts i h n ≡ o → (w : ℕ) × (busy ts i h n ≡ Some w) × (b ≡ w - (n - 1) * (at ts i).period)
-      go None g = let x = delay_none n g in let z : ◌≡◌ {A = ℕ} 0 1 = cc in absurd (omega arith)
+      go None g = let x = delay_none n g in cc
       go (Some w) g = let x = delay_at n w g in (w, g, cc)
 
 pub times_pos : (m c : ℕ) → 1 ≤ m → 1 ≤ c → 1 ≤ m * c
