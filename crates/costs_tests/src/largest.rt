@@ -2,7 +2,7 @@
 ghost use Rattle.std.specs.Prelude.{◌≡◌, ◌+◌, ◌^◌, ◌<◌};
 ghost use Rattle.costs_tests.specs.Largest.{paired, precedes, Unlawful};
 
-#[derive(Clone, Copy)]
+#[derive(Clone, Copy, PartialEq, Eq, PartialOrd, Ord)]
 pub struct Pair {
     pub largest: u32,
     pub total: u32,
@@ -22,13 +22,11 @@ impl Pair {
     pub fn no_more(self, other: Pair) -> bool
         ensures { result ≡ precedes self other }
     {
-        self.largest < other.largest || (self.largest == other.largest && self.total <= other.total)
+        self <= other
     }
 
     // No lawful cost joins and compares like this.
-    pub fn is_no_cost() -> bool
+    pub fn is_no_cost()
         ensures { Unlawful }
-    {
-        true
-    }
+    {}
 }

@@ -24,9 +24,9 @@ fn candidate(id: u32, tier: u32, weight: u32) -> Candidate {
 // Three tasks, the last of tier 1.
 fn three() -> Result<TaskList, Fail> {
     let mut list = TaskList::new();
-    list.push(candidate(1, 0, 1).check(0)?);
-    list.push(candidate(2, 0, 1).check(0)?);
-    list.push(candidate(3, 1, 10).check(0)?);
+    list.push(candidate(1, 0, 1).check(0)?)?;
+    list.push(candidate(2, 0, 1).check(0)?)?;
+    list.push(candidate(3, 1, 10).check(0)?)?;
     Ok(list)
 }
 

@@ -33,20 +33,9 @@ pub fn candidate(id: u32, execution: u32, period: u32) -> Candidate {
     }
 }
 
-// The number of a refusal, or 0 where the call is accepted.
-pub fn refusal(answer: Result<(), Fault>) -> u8 {
-    match answer {
-        Ok(_) => 0,
-        Err(fault) => fault.number(),
-    }
-}
-
-// The same of a call that answers a count of bytes.
-pub fn short(answer: Result<usize, Fault>) -> u8 {
-    match answer {
-        Ok(_) => 0,
-        Err(fault) => fault.number(),
-    }
+// The number that a call is refused with, if it is.
+pub fn refusal<A: Drop>(answer: Result<A, Fault>) -> Option<u8> {
+    answer.err().map(Fault::number)
 }
 
 #[test]
@@ -71,7 +60,7 @@ fn the_sample_through_all_commands(rt: HostRuntime) -> Result<(), Fail> {
         count <= 512 && &text[0..count] == b"1 1 1\n2 2 3\n3 3 10\ncost 104 0\n".as_slice()
     );
     plan.stop()?;
-    assert_eq!(rt; refusal(plan.stop()), 13);
+    assert_eq!(rt; refusal(plan.stop()), Some(13));
     Ok(())
 }
 

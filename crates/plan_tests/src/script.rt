@@ -17,7 +17,7 @@ fn check(holds: bool) -> Result<(), Fail> {
 // Advances by four until nothing is left, and reports.
 fn search_and_report(plan: &mut Plan<OneJob, Sum>) -> Result<(), Fail> {
     plan.start()?;
-    check(refusal(plan.start()) == 12)?;
+    check(refusal(plan.start()) == Some(12))?;
     check(plan.advance(4)?.count == 4)?;
     check(plan.advance(4)?.count == 4)?;
     let last = plan.advance(4)?;
@@ -35,13 +35,13 @@ fn a_script_of_commands(rt: HostRuntime) -> Result<(), Fail> {
         plan.load(&SAMPLE)?;
         search_and_report(&mut plan)?;
         plan.drop(2)?;
-        assert_eq!(rt; refusal(plan.stop()), 13);
+        assert_eq!(rt; refusal(plan.stop()), Some(13));
         plan.add(candidate(2, 2, 6))?;
         search_and_report(&mut plan)?;
         plan.stop()?;
         search_and_report(&mut plan)?;
         plan.load(&EMPTY)?;
-        assert_eq!(rt; refusal(plan.start()), 15);
+        assert_eq!(rt; refusal(plan.start()), Some(15));
     }
     Ok(())
 }

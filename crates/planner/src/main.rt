@@ -14,7 +14,8 @@ use std::io;
 use std::io::{Read, Write};
 use tables::table::codes;
 use tasks::fault::Fault;
-use text::refusal_line;
+use tasks::list::Codes;
+use text::{LISTING_LEN, REFUSAL_LEN, refusal_line};
 
 // A longer input is no table: it is refused by its header or its length, whatever follows.
 const LONGEST_INPUT: u64 = 1024;
@@ -25,18 +26,18 @@ const STEP: u32 = 1_000_000;
 const STEPS: u32 = 1_000;
 
 fn print_refusal(rt: &HostRuntime, fault: Fault) -> io::Result<()> {
-    let mut line = [0u8; 32];
-    match refusal_line(fault, &mut line) {
-        Ok(count) => rt.stdout().write_all(&line[0..count]),
-        Err(_) => Ok(()),
+    let mut line = [0u8; REFUSAL_LEN];
+    if let Ok(count) = refusal_line(fault, &mut line) {
+        rt.stdout().write_all(&line[0..count])?;
     }
+    Ok(())
 }
 
 fn print_listing<T: ResponseTest + Drop, C: Cost + Drop>(
     rt: &HostRuntime,
     plan: &Plan<T, C>,
 ) -> io::Result<()> {
-    let mut text = [0u8; 512];
+    let mut text = [0u8; LISTING_LEN];
     match plan.listing(&mut text) {
         Ok(count) if count <= text.len() => rt.stdout().write_all(&text[0..count]),
         Ok(_) => Ok(()),
@@ -50,16 +51,10 @@ fn print_progress<T: ResponseTest + Drop, C: Cost + Drop>(
     plan: &Plan<T, C>,
     examined: u64,
 ) -> io::Result<()> {
-    match plan.best_cost() {
-        Some((first, second)) => {
-            eprintln!(rt; "examined {examined} vertices, best cost {first} {second}")
-        }
-        None => Ok(()),
+    if let Some((first, second)) = plan.best_cost() {
+        eprintln!(rt; "examined {examined} vertices, best cost {first} {second}")?;
     }
-}
-
-fn next_step<'a>() -> Command<'a> {
-    Command::Advance(STEP)
+    Ok(())
 }
 
 // Advances until the plan is finished, or for long enough.
@@ -69,7 +64,7 @@ fn advance_to_the_end<T: ResponseTest + Drop, C: Cost + Drop>(
 ) -> io::Result<()> {
     let mut examined = 0u64;
     for _ in 0..STEPS {
-        match plan.apply(next_step(), &mut []) {
+        match plan.apply(Command::Advance(STEP), &mut []) {
             Ok(
                 Outcome::Advanced {
                     count,
@@ -91,28 +86,25 @@ fn plan_table<T: ResponseTest + Drop, C: Cost + Drop>(
 ) -> anyhow::Result<()> {
     let commands = [Command::Load(file), Command::Start];
     let (mut plan, answers) = run_new(rt.alloc(), test, cost, &commands, &mut [])?;
-    for answer in answers.iter() {
-        if let Err(fault) = *answer {
-            print_refusal(rt, fault)?;
-            return Ok(());
+    match answers.iter().find_map(|answer| answer.err()) {
+        Some(fault) => print_refusal(rt, fault)?,
+        None => {
+            advance_to_the_end(rt, &mut plan)?;
+            print_listing(rt, &plan)?;
         }
     }
-    advance_to_the_end(rt, &mut plan)?;
-    print_listing(rt, &plan)?;
     Ok(())
 }
 
 fn main(rt: HostRuntime) -> anyhow::Result<()> {
     let mut file = Vec::new(rt.alloc());
     rt.stdin().take(LONGEST_INPUT).read_to_end(&mut file)?;
-    let named = match codes(&file) {
-        Some(codes) => (codes.test, codes.cost),
-        None => (0, 0),
-    };
-    match named {
-        (0, 1) => plan_table(&rt, OneJob, Tiers, &file),
-        (1, 0) => plan_table(&rt, Window, Sum, &file),
-        (1, 1) => plan_table(&rt, Window, Tiers, &file),
+    // The codes stay numbers: tests and costs of others have codes too, so no enum of this program lists them.
+    match codes(&file) {
+        Some(Codes { test: 0, cost: 1, .. }) => plan_table(&rt, OneJob, Tiers, &file),
+        Some(Codes { test: 1, cost: 0, .. }) => plan_table(&rt, Window, Sum, &file),
+        Some(Codes { test: 1, cost: 1, .. }) => plan_table(&rt, Window, Tiers, &file),
+        // also where a code is missing, or is that of no kind here
         _ => plan_table(&rt, OneJob, Sum, &file),
     }
 }

@@ -45,9 +45,7 @@ pub fn sample_tasks() -> Result<TaskList, Fail> {
         ..candidate(3, 0, 3, 12)
     };
     for candidate in [candidate(1, 0, 1, 4), candidate(2, 0, 2, 6), heavy] {
-        if !tasks.push(candidate.check(0)?) {
-            return Err(Fail::new("the list is full"));
-        }
+        tasks.push(candidate.check(0)?)?;
     }
     Ok(tasks)
 }
