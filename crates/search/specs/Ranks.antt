@@ -1,5 +1,5 @@
 -- What rankings and waiting vertices stand for.
-use Rattle.std.specs.Prelude.{ℕ, zero, suc, ◌+◌, ◌-◌, Bool, true, ◌&&◌, List, [], ◌∷◌, map, length, take, nat_lt, slice_index}
+use Rattle.std.specs.Prelude.{◌≡◌, ◌<◌, ℕ, zero, suc, ◌+◌, ◌-◌, Bool, true, ◌&&◌, List, [], ◌∷◌, map, length, take, nat_lt, slice_index}
 use Rattle.tasks.specs.Sets.{members}
 use Rattle.orders.specs.Orders.{Assignment}
 use Rattle.orders.specs.Search as orders
@@ -32,3 +32,9 @@ sound n [] = true
 sound n (v ∷ vs) =
     nat_lt (length vs) (room (suc (members v.above.placed.word)))
     && (nat_lt v.task n && (all_below n (ranks v.above) && sound n vs))
+
+-- what is known of a vertex that was taken off a stack of tasks of n, with so many under it
+pub record Below (n under : ℕ) (v : Vertex) : Type 0 where
+  pub low : v.task < n
+  pub above : all_below n (ranks v.above) ≡ true
+  pub places : under < room (suc (members v.above.placed.word))

@@ -8,7 +8,8 @@ use tasks::set::TaskSet;
 mod bound;
 pub mod place;
 
-// The set of the placed tasks, their order by level, and their response times by position.
+// The set of the placed tasks, their order by level, and their response times by position. The arrays have room for every task,
+// in place of a list as long as the set: a vertex is copied, and nothing is allocated once a plan is made.
 #[derive(Clone, Copy)]
 pub struct Ranking {
     pub placed: TaskSet,

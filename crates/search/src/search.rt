@@ -6,9 +6,10 @@ ghost use Rattle.search.specs.Ranks.{ranks, sound};
 use crate::ranking::Ranking;
 use crate::vertex::Vertex;
 
+pub mod advance;
 pub mod stack;
 pub mod view;
-pub mod walk;
+mod walk;
 
 // A search over the tasks at the positions below `size`.
 #[derive(Drop)]

@@ -1,9 +1,10 @@
 // The stack of vertices, and how a search begins.
-ghost use Rattle.std.specs.Prelude.{◌≡◌, ◌<◌, ◌≤◌, true, [], ◌++◌, length, IfOk, OnOk, vec_len};
+ghost use Rattle.std.specs.Prelude.{◌≡◌, ◌<◌, ◌≤◌, true, [], ◌++◌, length, map, IfOk, OnOk, IfSome, IfNone, vec_len};
+ghost use Rattle.std.specs.Option.{option_to_list};
 ghost use Rattle.tasks.specs.Lists.{plains};
 ghost use Rattle.orders.specs.Orders.{Order};
 ghost use Rattle.orders.specs.Search.{nothing_placed, begun, entering};
-ghost use Rattle.search.specs.Ranks.{ranks, ranked, room, all_below};
+ghost use Rattle.search.specs.Ranks.{ranks, ranked, waiting, room, all_below, Below};
 ghost use Rattle.search.specs.Model.{state, first_over, Started};
 
 use super::Search;
@@ -55,6 +56,17 @@ impl Search {
         self.size = size;
         self.best = first;
         self.enter(Ranking::none());
+    }
+
+    // Takes the next vertex to examine off the stack.
+    pub(crate) fn next_vertex(&mut self) -> Option<Vertex>
+        ensures size { self.new.size ≡ self.old.size }
+        ensures best { self.new.best ≡ self.old.best }
+        ensures active { (state self.old).active ≡ map waiting (option_to_list result) ++ (state self.new).active }
+        ensures empty { IfNone result ((state self.new).active ≡ []) }
+        ensures known { IfSome result (Below self.old.size (vec_len self.new.active)) }
+    {
+        self.active.pop()
     }
 
     // Puts every task that is not placed at the next level, the first to be examined first.

@@ -1,9 +1,8 @@
-// Examining vertices.
-ghost use Rattle.std.specs.Prelude.{◌≡◌, ℕ, ◌+◌, ◌≤◌, true, false, [], length, vec_len, MatchOption};
+// Examining one vertex after another.
+ghost use Rattle.std.specs.Prelude.{◌≡◌, length};
 ghost use Rattle.tasks.specs.Lists.{plains};
-ghost use Rattle.orders.specs.Search.{is_none, vertices};
-ghost use Rattle.search.specs.Ranks.{ranks, ranked, room, all_below};
-ghost use Rattle.search.specs.Model.{state, priced, worth, Admitted, placed_over, examine_over, steps_over, stepped_over, Reached, BestOver};
+ghost use Rattle.search.specs.Ranks.{ranked};
+ghost use Rattle.search.specs.Model.{priced, worth};
 
 use super::Search;
 use crate::problem::Problem;
@@ -12,102 +11,101 @@ use crate::ranking::Ranking;
 use costs::cost::Cost;
 use costs::fold::total_cost;
 use response::test::ResponseTest;
-use tasks::list::TaskList;
 
-impl Search {
-    // The cost of the best order so far.
-    pub fn best_cost<C: Cost>(&self, cost: &C, tasks: &TaskList) -> C::Value
-        requires { length (plains tasks.now) ≡ self.now.size }
-        ensures { result ≡ worth (priced (C.prices cost.now) (plains tasks.now)) (state self.now).best }
+// A search under way over a problem, with the cost of its best order.
+#[derive(Drop)]
+pub(crate) struct Walk<'a, T, C: Cost> {
+    problem: Problem<'a, T, C>,
+    pub(crate) search: &'a mut Search,
+    price: C::Value,
+    ghost over_held: { length (plains problem.tasks.now) ≡ search.now.size },
+    ghost priced: { price ≡ worth (priced (C.prices problem.cost.now) (plains problem.tasks.now)) (ranked search.now.best) },
+}
+
+impl<'a, T: ResponseTest, C: Cost> Walk<'a, T, C> {
+    ghost use Rattle.std.specs.Prelude.{◌≤◌, true, false, [], vec_len, not};
+    ghost use Rattle.orders.specs.Search.{is_none};
+    ghost use Rattle.search.specs.Ranks.{ranks, room, all_below};
+    ghost use Rattle.search.specs.Model.{state, placed_over, examine_over, steps_over, stepped_over};
+
+    // Goes on with a search.
+    pub(crate) fn new(problem: Problem<'a, T, C>, search: &'a mut Search) -> Walk<'a, T, C>
+        requires { length (plains problem.tasks.now) ≡ search.old.size }
+        ensures same_search { result.search.ghost_name ≡ search.entry.ghost_name }
+        ensures same_problem { result.problem ≡ problem.entry }
+        ensures search { result.search.now ≡ search.old }
     {
-        total_cost(cost, tasks, &self.best.times)
+        let price = search.best_cost(problem.cost, problem.tasks);
+        Walk {
+            problem,
+            search,
+            price,
+        }
     }
 
-    // With a vertex's task placed: a new best order, or the vertices below it, or neither. Takes the cost of the best order,
-    // and returns it.
-    fn settle<T: ResponseTest, C: Cost>(
-        &mut self,
-        problem: Problem<'_, T, C>,
-        here: Ranking,
-        price: C::Value,
-    ) -> C::Value
-        requires over_held { length (plains problem.tasks.now) ≡ self.old.size }
-        requires room { vec_len self.old.active ≤ room (length (ranks here)) }
-        requires among { all_below self.old.size (ranks here) ≡ true }
-        requires price { price ≡ worth (priced (C.prices problem.cost.now) (plains problem.tasks.now)) (ranked self.old.best) }
-        ensures size { self.new.size ≡ self.old.size }
-        ensures state { state self.new ≡ placed_over (T.answer problem.entry.test.now) (C.prices problem.entry.cost.now) (plains problem.entry.tasks.now) (state self.old) (ranked here) }
-        ensures price { result ≡ worth (priced (C.prices problem.entry.cost.now) (plains problem.entry.tasks.now)) (ranked self.new.best) }
+    // With a vertex's task placed: a new best order, or the vertices below it, or neither.
+    fn settle(&mut self, here: Ranking)
+        requires room { vec_len self.old.search.now.active ≤ room (length (ranks here)) }
+        requires among { all_below self.old.search.now.size (ranks here) ≡ true }
+        ensures same_search { self.new.search.ghost_name ≡ self.old.search.ghost_name }
+        ensures same_problem { self.new.problem ≡ self.old.problem }
+        ensures state { state self.new.search.now ≡ placed_over (T.answer self.old.problem.test.now) (C.prices self.old.problem.cost.now) (plains self.old.problem.tasks.now) (state self.old.search.now) (ranked here) }
     {
-        let held = problem.tasks.as_slice();
+        let Problem { cost, tasks, .. } = self.problem;
+        let held = tasks.as_slice();
         if here.level() == held.len() {
-            let total = total_cost(problem.cost, problem.tasks, &here.times);
-            if problem.cost.no_more(price, total) {
-                return price;
+            let total = total_cost(cost, tasks, &here.times);
+            if !cost.no_more(self.price, total) {
+                self.price = total;
+                self.search.best = here;
             }
-            self.best = here;
-            return total;
+            return;
         }
-        if let Some(bound) = here.bound(problem) {
-            if !problem.cost.no_more(price, bound) {
-                self.enter(here);
+        if let Some(bound) = here.bound(self.problem) {
+            if !cost.no_more(self.price, bound) {
+                self.search.enter(here);
             }
         }
-        price
     }
 
-    // Examines the next vertex, if there is one. Takes the cost of the best order, and returns it.
-    fn examine<T: ResponseTest, C: Cost>(
-        &mut self,
-        problem: Problem<'_, T, C>,
-        price: C::Value,
-    ) -> Option<C::Value>
-        requires over_held { length (plains problem.tasks.now) ≡ self.old.size }
-        requires price { price ≡ worth (priced (C.prices problem.cost.now) (plains problem.tasks.now)) (ranked self.old.best) }
-        ensures size { self.new.size ≡ self.old.size }
-        ensures state { state self.new ≡ examine_over (T.answer problem.entry.test.now) (C.prices problem.entry.cost.now) (plains problem.entry.tasks.now) (state self.old) }
-        ensures price { MatchOption result ((state self.old).active ≡ []) (λ v. (is_none (state self.old).active ≡ false) × (v ≡ worth (priced (C.prices problem.entry.cost.now) (plains problem.entry.tasks.now)) (ranked self.new.best))) }
+    // Examines the next vertex, if there is one.
+    fn examine(&mut self) -> bool
+        ensures same_search { self.new.search.ghost_name ≡ self.old.search.ghost_name }
+        ensures same_problem { self.new.problem ≡ self.old.problem }
+        ensures some { result ≡ not (is_none (state self.old.search.now).active) }
+        ensures state { state self.new.search.now ≡ examine_over (T.answer self.old.problem.test.now) (C.prices self.old.problem.cost.now) (plains self.old.problem.tasks.now) (state self.old.search.now) }
     {
-        let vertex = self.active.pop()?;
-        let held = problem.tasks.as_slice();
+        let Some(vertex) = self.search.next_vertex() else {
+            return false;
+        };
+        let Problem { test, tasks, .. } = self.problem;
+        let held = tasks.as_slice();
         let position = vertex.task as usize;
-        if let Some(time) = problem.test.respond(held, position, vertex.above.placed) {
-            let here = vertex.above.with(vertex.task, time);
-            return Some(self.settle(problem, here, price));
+        if let Some(time) = test.respond(held, position, vertex.above.placed) {
+            self.settle(vertex.above.with(vertex.task, time));
         }
-        Some(price)
+        true
     }
 
     // Examines `count` vertices, or all that are left.
-    pub fn advance<T: ResponseTest, C: Cost>(
-        &mut self,
-        problem: Problem<'_, T, C>,
-        count: u64,
-    ) -> Progress<u64>
-        requires { length (plains problem.tasks.now) ≡ self.old.size }
-        ensures size { self.new.size ≡ self.old.size }
-        ensures state { state self.new ≡ steps_over (T.answer problem.entry.test.now) (C.prices problem.entry.cost.now) (plains problem.entry.tasks.now) count (state self.old) }
-        ensures examined { result.count ≡ stepped_over (T.answer problem.entry.test.now) (C.prices problem.entry.cost.now) (plains problem.entry.tasks.now) count (state self.old) }
-        ensures finished { result.finished ≡ is_none (state self.new).active }
-        ensures reached { (k : ℕ) → Reached (T.answer problem.entry.test.now) (C.prices problem.entry.cost.now) (plains problem.entry.tasks.now) k (state self.old) → Reached (T.answer problem.entry.test.now) (C.prices problem.entry.cost.now) (plains problem.entry.tasks.now) (k + count) (state self.new) }
-        ensures ends { (k : ℕ) → Reached (T.answer problem.entry.test.now) (C.prices problem.entry.cost.now) (plains problem.entry.tasks.now) k (state self.new) → vertices (length (plains problem.entry.tasks.now)) ≤ k → result.finished ≡ true }
-        ensures best { (k : ℕ) → Reached (T.answer problem.entry.test.now) (C.prices problem.entry.cost.now) (plains problem.entry.tasks.now) k (state self.new) → Admitted (T.Admission.admitted problem.entry.test.now) (plains problem.entry.tasks.now) → result.finished ≡ true → BestOver (T.answer problem.entry.test.now) (C.prices problem.entry.cost.now) (plains problem.entry.tasks.now) (state self.new).best }
+    pub(crate) fn advance(&mut self, count: u64) -> Progress<u64>
+        ensures same_search { self.new.search.ghost_name ≡ self.old.search.ghost_name }
+        ensures same_problem { self.new.problem ≡ self.old.problem }
+        ensures state { state self.new.search.now ≡ steps_over (T.answer self.old.problem.test.now) (C.prices self.old.problem.cost.now) (plains self.old.problem.tasks.now) count (state self.old.search.now) }
+        ensures examined { result.count ≡ stepped_over (T.answer self.old.problem.test.now) (C.prices self.old.problem.cost.now) (plains self.old.problem.tasks.now) count (state self.old.search.now) }
+        ensures finished { result.finished ≡ is_none (state self.new.search.now).active }
     {
-        let mut price = self.best_cost(problem.cost, problem.tasks);
         for examined in 0..count {
-            match self.examine(problem, price) {
-                Some(next) => price = next,
-                None => {
-                    return Progress {
-                        count: examined,
-                        finished: true,
-                    };
-                }
+            if !self.examine() {
+                return Progress {
+                    count: examined,
+                    finished: true,
+                };
             }
         }
         Progress {
             count,
-            finished: self.active.is_empty(),
+            finished: self.search.is_finished(),
         }
     }
 }
