@@ -1,7 +1,7 @@
 // What was compared, counted.
 use std::fmt;
 
-#[derive(Drop)]
+#[derive(Clone, Copy, Default)]
 pub struct Counts {
     pub tables: u64,
     pub ordered: u64,
@@ -13,34 +13,19 @@ pub struct Counts {
     pub commands: u64,
 }
 
-impl Counts {
-    pub fn new() -> Counts {
-        Counts {
-            tables: 0,
-            ordered: 0,
-            vertices: 0,
-            questions: 0,
-            refused: 0,
-            taken: 0,
-            jobs: 0,
-            commands: 0,
-        }
-    }
-}
-
 impl fmt::Display for Counts {
     fn fmt<W: fmt::Write>(&self, f: &mut fmt::Formatter<W>) -> fmt::Result {
-        let tables = self.tables;
-        let ordered = self.ordered;
-        let vertices = self.vertices;
-        let questions = self.questions;
-        let taken = self.taken;
-        let refused = self.refused;
-        let jobs = self.jobs;
-        let commands = self.commands;
         write!(
             f,
-            "tables {tables} with an order {ordered} vertices {vertices} questions {questions} files taken {taken} refused {refused} jobs {jobs} commands {commands}"
+            "tables {} with an order {} vertices {} questions {} files taken {} refused {} jobs {} commands {}",
+            self.tables,
+            self.ordered,
+            self.vertices,
+            self.questions,
+            self.taken,
+            self.refused,
+            self.jobs,
+            self.commands
         )
     }
 }

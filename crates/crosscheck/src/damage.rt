@@ -1,5 +1,4 @@
 // Damaged tables: cut at every length, longer than they say, with each bit flipped, and with random bytes.
-use crate::counts::Counts;
 use crate::pair::Pair;
 use crate::record::same_record;
 use costs::cost::Cost;
@@ -9,45 +8,38 @@ use second::random::Random;
 use second::reply::Reply;
 use std::alloc::{AllocError, Global};
 
-impl<T: ResponseTest + Drop, C: Cost + Drop> Pair<T, C> {
+impl<T: ResponseTest + Drop, C: Cost + Drop> Pair<'_, T, C> {
     // Loads a file that may be no table.
-    pub fn load(
-        &mut self,
-        rt: &HostRuntime,
-        counts: &mut Counts,
-        file: &[u8],
-    ) -> anyhow::Result<()> {
-        match self.obey(rt, Command::Load(file), 0)? {
-            Reply::Done => counts.taken = counts.taken.saturating_add(1),
-            _ => counts.refused = counts.refused.saturating_add(1),
+    pub fn load(&mut self, file: &[u8]) -> anyhow::Result<()> {
+        match self.obey(Command::Load(file), 0)? {
+            Reply::Done => self.counts.taken = self.counts.taken.saturating_add(1),
+            _ => self.counts.refused = self.counts.refused.saturating_add(1),
         }
         for number in [0, 1, 2, 7, 8, 18] {
-            same_record(rt, file, number)?;
+            same_record(self.rt, file, number)?;
         }
         Ok(())
     }
 
     // Loads every damaged form of a table.
-    pub fn damage(
-        &mut self,
-        rt: &HostRuntime,
-        counts: &mut Counts,
-        random: &mut Random,
-        file: &[u8],
-    ) -> anyhow::Result<()> {
+    pub fn damage(&mut self, file: &[u8]) -> anyhow::Result<()> {
+        let heap = self.rt.alloc();
         for length in 0..file.len() {
-            self.load(rt, counts, &file[0..length])?;
+            self.load(&file[..length])?;
         }
         for place in 0..file.len() {
             for power in 0..8u32 {
-                self.load(rt, counts, &flipped(rt.alloc(), file, place, 1 << power)?)?;
+                self.load(&flipped(heap, file, place, 1 << power)?)?;
             }
         }
-        for more in 1..14usize {
-            self.load(rt, counts, &longer(rt.alloc(), file, more)?)?;
+        let mut longer = Vec::from_slice(heap, file)?;
+        for _ in 1..14u32 {
+            longer.push(1)?;
+            self.load(&longer)?;
         }
         for _ in 0..32u32 {
-            self.load(rt, counts, &scrambled(rt.alloc(), file, random)?)?;
+            let bad = scrambled(heap, file, &mut self.random)?;
+            self.load(&bad)?;
         }
         Ok(())
     }
@@ -57,14 +49,6 @@ fn flipped(heap: Global, file: &[u8], place: usize, mask: u8) -> Result<Vec<u8>,
     let mut bad = Vec::from_slice(heap, file)?;
     if let Some(byte) = bad.get_mut(place) {
         *byte ^= mask;
-    }
-    Ok(bad)
-}
-
-fn longer(heap: Global, file: &[u8], more: usize) -> Result<Vec<u8>, AllocError> {
-    let mut bad = Vec::from_slice(heap, file)?;
-    for _ in 0..more {
-        bad.push(1)?;
     }
     Ok(bad)
 }

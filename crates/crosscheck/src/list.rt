@@ -1,25 +1,34 @@
 // The listing by both planners.
 use crate::pair::{Pair, UNTOUCHED, begun_with};
-use crate::reply::{differ, of_fault};
+use crate::reply::of_fault;
 use costs::cost::Cost;
 use response::test::ResponseTest;
-use second::reply::Reply;
+use second::reply::{Failure, Reply};
 
-impl<T: ResponseTest + Drop, C: Cost + Drop> Pair<T, C> {
+impl<T: ResponseTest + Drop, C: Cost + Drop> Pair<'_, T, C> {
     // Compares the listings in a buffer of some size.
-    pub fn list(&self, rt: &HostRuntime, size: usize) -> anyhow::Result<()> {
-        let mut buffer = vec![in rt.alloc(); UNTOUCHED; size]?;
+    pub fn list(&self, size: usize) -> anyhow::Result<()> {
+        let heap = self.rt.alloc();
+        let mut buffer = vec![in heap; UNTOUCHED; size]?;
         let first = match self.first.listing(&mut buffer) {
             Ok(count) => Reply::Listed {
                 bytes: count as u64,
             },
             Err(fault) => of_fault(fault),
         };
-        let (second, text) = self.second.listing(rt.alloc(), size)?;
-        let expected = begun_with(rt.alloc(), text.as_bytes(), size)?;
+        let (second, text) = match self.second.listing(size) {
+            Ok(text) => (
+                Reply::Listed {
+                    bytes: text.len() as u64,
+                },
+                text,
+            ),
+            Err(Failure::Refused(refusal)) => (refusal.into(), String::new(heap)),
+            Err(Failure::Memory(error)) => return Err(error.into()),
+        };
+        let expected = begun_with(heap, text.as_bytes(), size)?;
         if first != second || buffer != expected {
-            let table = self.table(rt.alloc())?;
-            differ(rt, "listing", &table, &(first, buffer), &(second, expected))?;
+            self.differ("listing", &(first, buffer), &(second, expected))?;
         }
         Ok(())
     }

@@ -2,11 +2,11 @@
 // is printed with its table, and ends the program with an error.
 #![tactic(auto)]
 
-use commands::stop;
 use costs::cost::Cost;
 use costs::sum::Sum;
 use costs::tiers::Tiers;
 use counts::Counts;
+use law::command::Command;
 use pair::Pair;
 use plan::plan::Plan;
 use response::one_job::OneJob;
@@ -15,10 +15,9 @@ use response::window::Window;
 use second::draw::draw;
 use second::random::Random;
 use second::shadow::Shadow;
-use second::table::packed;
+use second::table::{Kind, Pricing, Test, packed};
 use std::env;
 
-mod commands;
 mod compare;
 mod counts;
 mod damage;
@@ -35,28 +34,44 @@ const TABLES: u64 = 256;
 // How many random commands follow each table.
 const COMMANDS: u64 = 100;
 
-// Draws tables of 0 to 7 tasks for plans of one kind.
-fn check_kind<T: ResponseTest + Drop, C: Cost + Drop>(
-    rt: &HostRuntime,
-    first: Plan<T, C>,
-    second: Shadow,
+// A run of the program: how many tables it draws for each kind of plan, and what was compared so far.
+#[derive(Drop)]
+struct Session<'a> {
+    rt: &'a HostRuntime,
     tables: u64,
-    counts: &mut Counts,
-) -> anyhow::Result<()> {
-    let kind = second.kind;
-    let mut random = Random::new(1 + u64::from(kind.window) * 2 + u64::from(kind.tiers));
-    let mut pair = Pair { first, second };
-    for number in 0..tables {
-        let rows = draw(&mut random, kind, number % 8);
-        let file = packed(rt.alloc(), kind, rows.all())?;
-        counts.tables = counts.tables.saturating_add(1);
-        pair.damage(rt, counts, &mut random, &file)?;
-        pair.load(rt, counts, &file)?;
-        pair.compare(rt, counts, &mut random, rows.all())?;
-        pair.drill(rt, counts, &mut random, COMMANDS)?;
-        let _ = pair.obey(rt, stop(), 0)?;
+    counts: Counts,
+}
+
+impl Session<'_> {
+    // Draws tables of 0 to 7 tasks for plans of one kind.
+    fn check<T: ResponseTest + Drop, C: Cost + Drop>(
+        &mut self,
+        first: Plan<T, C>,
+        test: Test,
+        pricing: Pricing,
+    ) -> anyhow::Result<()> {
+        let heap = self.rt.alloc();
+        let kind = Kind { test, pricing };
+        let mut pair = Pair {
+            rt: self.rt,
+            first,
+            second: Shadow::new(heap, kind),
+            random: Random::new(1 + test as u64 * 2 + pricing as u64),
+            counts: self.counts,
+        };
+        for number in 0..self.tables {
+            let rows = draw(heap, &mut pair.random, test, number % 8)?;
+            let file = packed(heap, kind, &rows)?;
+            pair.counts.tables = pair.counts.tables.saturating_add(1);
+            pair.damage(&file)?;
+            pair.load(&file)?;
+            pair.compare(&rows)?;
+            pair.drill(COMMANDS)?;
+            let _ = pair.obey(Command::Stop, 0)?;
+        }
+        self.counts = pair.counts;
+        Ok(())
     }
-    Ok(())
 }
 
 // The number of tables that an argument asks for.
@@ -68,17 +83,25 @@ fn wanted(rt: &HostRuntime) -> anyhow::Result<u64> {
 }
 
 fn run(rt: &HostRuntime) -> anyhow::Result<()> {
-    let tables = wanted(rt)?;
     let heap = rt.alloc();
-    let mut counts = Counts::new();
-    let plan = Plan::new(heap, OneJob, Sum)?;
-    check_kind(rt, plan, Shadow::new(false, false), tables, &mut counts)?;
-    let plan = Plan::new(heap, OneJob, Tiers)?;
-    check_kind(rt, plan, Shadow::new(false, true), tables, &mut counts)?;
-    let plan = Plan::new(heap, Window, Sum)?;
-    check_kind(rt, plan, Shadow::new(true, false), tables, &mut counts)?;
-    let plan = Plan::new(heap, Window, Tiers)?;
-    check_kind(rt, plan, Shadow::new(true, true), tables, &mut counts)?;
+    let mut session = Session {
+        rt,
+        tables: wanted(rt)?,
+        counts: Counts::default(),
+    };
+    session.check(Plan::new(heap, OneJob, Sum)?, Test::OneJob, Pricing::Sum)?;
+    session.check(
+        Plan::new(heap, OneJob, Tiers)?,
+        Test::OneJob,
+        Pricing::Tiers,
+    )?;
+    session.check(Plan::new(heap, Window, Sum)?, Test::Window, Pricing::Sum)?;
+    session.check(
+        Plan::new(heap, Window, Tiers)?,
+        Test::Window,
+        Pricing::Tiers,
+    )?;
+    let counts = session.counts;
     println!(rt; "{counts}")?;
     Ok(())
 }

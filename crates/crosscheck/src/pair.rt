@@ -1,14 +1,17 @@
 // Both planners side by side.
+use crate::counts::Counts;
 use crate::reply::{differ, of_answer, of_outcome};
 use costs::cost::Cost;
 use law::command::Command;
 use plan::plan::Plan;
 use response::test::ResponseTest;
-use second::reply::{Reply, line_of};
+use second::random::Random;
+use second::reply::{Failure, Reply};
 use second::shadow::Shadow;
 use second::table::packed;
 use second::times::Times;
 use std::alloc::{AllocError, Global};
+use std::fmt::Debug;
 use text::refusal_line;
 
 // What stands in a buffer before it is lent, to see what stays.
@@ -28,9 +31,7 @@ struct Sight {
 // A buffer of some size that begins with these bytes.
 pub fn begun_with(heap: Global, bytes: &[u8], size: usize) -> Result<Vec<u8>, AllocError> {
     let mut buffer = Vec::from_slice(heap, bytes)?;
-    for _ in bytes.len()..size {
-        buffer.push(UNTOUCHED)?;
-    }
+    buffer.resize(bytes.len().max(size), UNTOUCHED)?;
     Ok(buffer)
 }
 
@@ -47,19 +48,19 @@ fn named(command: Command) -> (&'static str, u64) {
     }
 }
 
+// Both planners, the random numbers that tables and commands are drawn from, and what was compared so far.
 #[derive(Drop)]
-pub struct Pair<T: ResponseTest + Drop, C: Cost + Drop> {
+pub struct Pair<'a, T: ResponseTest + Drop, C: Cost + Drop> {
+    pub rt: &'a HostRuntime,
     pub first: Plan<T, C>,
     pub second: Shadow,
+    pub random: Random,
+    pub counts: Counts,
 }
 
-impl<T: ResponseTest + Drop, C: Cost + Drop> Pair<T, C> {
-    fn first_sight(
-        &mut self,
-        heap: Global,
-        command: Command,
-        size: usize,
-    ) -> Result<Sight, AllocError> {
+impl<T: ResponseTest + Drop, C: Cost + Drop> Pair<'_, T, C> {
+    fn first_sight(&mut self, command: Command, size: usize) -> Result<Sight, AllocError> {
+        let heap = self.rt.alloc();
         let mut buffer = vec![in heap; UNTOUCHED; size]?;
         let answer = self.first.apply(command, &mut buffer);
         let mut line = vec![in heap; UNTOUCHED; 32]?;
@@ -77,57 +78,65 @@ impl<T: ResponseTest + Drop, C: Cost + Drop> Pair<T, C> {
         })
     }
 
-    fn second_sight(
-        &mut self,
-        heap: Global,
-        command: Command,
-        size: usize,
-    ) -> Result<Sight, AllocError> {
+    fn second_sight(&mut self, command: Command, size: usize) -> Result<Sight, AllocError> {
+        let heap = self.rt.alloc();
         let mut buffer = vec![in heap; UNTOUCHED; size]?;
-        let reply = self.second.obey(heap, command, &mut buffer)?;
-        let line = line_of(heap, reply)?;
-        let table = self.table(heap)?;
+        let mut line = String::new(heap);
+        let reply = match self.second.obey(command, &mut buffer) {
+            Ok(reply) => reply,
+            Err(Failure::Refused(refusal)) => {
+                writeln!(line, "{refusal}")?;
+                refusal.into()
+            }
+            Err(Failure::Memory(error)) => return Err(error),
+        };
         Ok(Sight {
             reply,
             line: begun_with(heap, line.as_bytes(), 32)?,
             buffer,
-            table: begun_with(heap, &table, 200)?,
+            table: begun_with(heap, &self.table()?, 200)?,
             bound: self.second.vertex_bound(),
         })
     }
 
     // The table of the tasks that both should hold.
-    pub fn table(&self, heap: Global) -> Result<Vec<u8>, AllocError> {
-        packed(heap, self.second.kind, self.second.rows.all())
+    fn table(&self) -> Result<Vec<u8>, AllocError> {
+        packed(self.rt.alloc(), self.second.kind, &self.second.rows)
+    }
+
+    // Prints a difference over the table that both should hold.
+    pub fn differ<A: Debug, B: Debug>(
+        &self,
+        what: &str,
+        first: &A,
+        second: &B,
+    ) -> anyhow::Result<()> {
+        differ(self.rt, what, &self.table()?, first, second)
     }
 
     // Gives both one command, with a buffer of some size, and compares what is seen. Returns the answer.
-    pub fn obey(
-        &mut self,
-        rt: &HostRuntime,
-        command: Command,
-        size: usize,
-    ) -> anyhow::Result<Reply> {
-        let first = self.first_sight(rt.alloc(), command, size)?;
-        let second = self.second_sight(rt.alloc(), command, size)?;
+    pub fn obey(&mut self, command: Command, size: usize) -> anyhow::Result<Reply> {
+        let first = self.first_sight(command, size)?;
+        let second = self.second_sight(command, size)?;
         if first != second {
             let (name, number) = named(command);
-            let table = self.table(rt.alloc())?;
             match command {
-                Command::Load(file) => differ(rt, name, file, &(number, first), &second)?,
-                _ => differ(rt, name, &table, &(number, first), &second)?,
+                Command::Load(file) => differ(self.rt, name, file, &(number, first), &second)?,
+                _ => self.differ(name, &(number, first), &second)?,
             }
         }
         Ok(second.reply)
     }
 
     // Asks both for the time of a task below a set of ids.
-    pub fn ask(&self, rt: &HostRuntime, times: &Times, id: u8, above: u64) -> anyhow::Result<()> {
+    pub fn ask(&self, times: &Times, id: u8, above: u64) -> anyhow::Result<()> {
         let first = of_answer(self.first.ask(id, above));
-        let second = self.second.answer(times, u64::from(id), above);
+        let second = self
+            .second
+            .answer(times, u64::from(id), above)
+            .map_or_else(Reply::from, Reply::Answered);
         if first != second {
-            let table = self.table(rt.alloc())?;
-            differ(rt, "a question", &table, &(id, above, first), &second)?;
+            self.differ("a question", &(id, above, first), &second)?;
         }
         Ok(())
     }

@@ -1,7 +1,5 @@
 // The order that was found, on the tick machine: no job takes longer than its time, and without sections the worst workload reaches it.
-use crate::counts::Counts;
 use crate::pair::Pair;
-use crate::reply::differ;
 use costs::cost::Cost;
 use response::test::ResponseTest;
 use second::every_order::Problem;
@@ -25,57 +23,45 @@ fn times_of(heap: Global, problem: &Problem, order: &[usize]) -> Result<Vec<u64>
     Ok(times)
 }
 
-// No busy window of the order is longer; none where a task has a section.
+// No busy window of the order is longer; none where a task has a section, or where a window may be too long to be played.
 fn longest_window(problem: &Problem) -> Option<u64> {
-    let mut longest: u64 = 0;
-    for row in problem.rows {
-        if row.section > 0 {
-            return None;
-        }
-        let window = row.period.saturating_mul(64).saturating_add(row.deadline);
-        longest = longest.max(window);
+    if problem.rows.iter().any(|row| row.section > 0) {
+        return None;
     }
-    if longest <= MOST_TICKS {
-        Some(longest)
-    } else {
-        None
-    }
+    problem
+        .rows
+        .iter()
+        .map(|row| row.period.saturating_mul(64).saturating_add(row.deadline))
+        .max()
+        .filter(|longest| *longest <= MOST_TICKS)
 }
 
-impl<T: ResponseTest + Drop, C: Cost + Drop> Pair<T, C> {
-    pub fn play(
-        &self,
-        rt: &HostRuntime,
-        counts: &mut Counts,
-        random: &mut Random,
-        problem: &Problem,
-    ) -> anyhow::Result<()> {
+impl<T: ResponseTest + Drop, C: Cost + Drop> Pair<'_, T, C> {
+    pub fn play(&mut self, problem: &Problem) -> anyhow::Result<()> {
         for _ in 0..3u32 {
-            let workload = Workload::Drawn(Random::new(random.between(0, 1 << 40)));
-            self.play_one(rt, counts, problem, workload, TICKS)?;
+            let workload = Workload::Drawn(Random::new(self.random.between(0, 1 << 40)));
+            self.play_one(problem, workload, TICKS)?;
         }
         if let Some(ticks) = longest_window(problem) {
-            self.play_one(rt, counts, problem, Workload::Worst, ticks)?;
+            self.play_one(problem, Workload::Worst, ticks)?;
         }
         Ok(())
     }
 
     fn play_one(
-        &self,
-        rt: &HostRuntime,
-        counts: &mut Counts,
+        &mut self,
         problem: &Problem,
-        mut workload: Workload,
+        workload: Workload,
         ticks: u64,
     ) -> anyhow::Result<()> {
+        let heap = self.rt.alloc();
         let order = self.second.order();
-        let times = times_of(rt.alloc(), problem, order)?;
-        let mut machine = Machine::new(rt.alloc(), problem, order, &times, &mut workload)?;
-        machine.play(ticks, &mut workload)?;
-        counts.jobs = counts.jobs.saturating_add(machine.ended);
-        if machine.late > 0 || (workload.is_worst() && !machine.reached()) {
-            let table = self.table(rt.alloc())?;
-            return differ(rt, "ticks", &table, &times, &machine.lanes);
+        let times = times_of(heap, problem, order)?;
+        let mut machine = Machine::new(heap, problem, order, &times, workload)?;
+        machine.play(ticks)?;
+        self.counts.jobs = self.counts.jobs.saturating_add(machine.ended);
+        if machine.late > 0 || machine.missed_worst() {
+            return self.differ("ticks", &times, &machine.lanes);
         }
         Ok(())
     }

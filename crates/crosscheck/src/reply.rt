@@ -1,4 +1,5 @@
-// The answers of the first planner in the words of the second, and what is printed where they differ.
+// The answers of the first planner in the words of the second, and what is printed where they differ. Functions say it, since neither
+// planner's types are this crate's, so it may not write a `From` between them.
 use anyhow::anyhow;
 use law::command::Outcome;
 use second::reply::Reply;
@@ -12,37 +13,34 @@ pub fn of_fault(fault: Fault) -> Reply {
     }
 }
 
-// An answer of the first planner to a command.
-pub fn of_outcome(answer: Result<Outcome, Fault>) -> Reply {
-    match answer {
-        Ok(Outcome::Done) => Reply::Done,
-        Ok(Outcome::Started) => Reply::Started,
-        Ok(Outcome::Advanced { count, finished }) => Reply::Advanced {
+fn of_done(outcome: Outcome) -> Reply {
+    match outcome {
+        Outcome::Done => Reply::Done,
+        Outcome::Started => Reply::Started,
+        Outcome::Advanced { count, finished } => Reply::Advanced {
             count: u64::from(count),
             finished,
         },
-        Ok(
-            Outcome::Reported {
-                bytes,
-                first,
-                second,
-            },
-        ) => Reply::Reported {
+        Outcome::Reported {
+            bytes,
+            first,
+            second,
+        } => Reply::Reported {
             bytes: bytes as u64,
             first,
             second,
         },
-        Err(fault) => of_fault(fault),
     }
+}
+
+// An answer of the first planner to a command.
+pub fn of_outcome(answer: Result<Outcome, Fault>) -> Reply {
+    answer.map_or_else(of_fault, of_done)
 }
 
 // An answer of the first planner to a question.
 pub fn of_answer(answer: Result<Option<u32>, Fault>) -> Reply {
-    match answer {
-        Ok(Some(time)) => Reply::Answered(Some(u64::from(time))),
-        Ok(None) => Reply::Answered(None),
-        Err(fault) => of_fault(fault),
-    }
+    answer.map_or_else(of_fault, |time| Reply::Answered(time.map(u64::from)))
 }
 
 // Prints a difference: what was asked over which table, and both answers.

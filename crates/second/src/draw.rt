@@ -1,11 +1,13 @@
 // Random tables: small numbers that a scan goes through, loads around the edge of what an order can bear, sections, equal costs,
 // deadlines below and beyond periods, and now and then large numbers or a long busy window.
 use crate::random::Random;
-use crate::table::{Kind, Row, Rows};
+use crate::table::{Row, Test};
+use std::alloc::{AllocError, Global};
 
 // How the tasks of one table are drawn.
 #[derive(Clone, Copy)]
 struct Style {
+    test: Test,
     // the periods
     shortest: u64,
     longest: u64,
@@ -18,76 +20,79 @@ struct Style {
     sections: bool,
 }
 
-fn draw_style(random: &mut Random, kind: Kind, count: u64) -> Style {
-    let longest = random.between(6, 40);
-    let load = random.between(300, 1200);
-    let weight = match random.between(0, 4) {
-        0 => 1,
-        1 => 65_535,
-        _ => 4,
-    };
-    let slack = random.between(8, 40);
-    let sections = !kind.window && random.once_in(2);
-    Style {
-        shortest: random.between(2, 8),
-        longest,
-        share: load.checked_div(count).unwrap_or(0),
-        slack,
-        weight,
-        sections,
+impl Style {
+    fn drawn(random: &mut Random, test: Test, count: u64) -> Style {
+        let longest = random.between(6, 40);
+        let load = random.between(300, 1200);
+        let weight = match random.between(0, 4) {
+            0 => 1,
+            1 => 65_535,
+            _ => 4,
+        };
+        let slack = random.between(8, 40);
+        let sections = test == Test::OneJob && random.once_in(2);
+        Style {
+            test,
+            shortest: random.between(2, 8),
+            longest,
+            share: load.checked_div(count).unwrap_or(0),
+            slack,
+            weight,
+            sections,
+        }
     }
-}
 
-// Few tasks with long times.
-fn draw_large(random: &mut Random, kind: Kind) -> Style {
-    Style {
-        shortest: 30_000,
-        longest: 200_000,
-        share: random.between(150, 350),
-        slack: random.between(9, 13),
-        weight: 65_535,
-        sections: !kind.window,
+    // Few tasks with long times.
+    fn large(random: &mut Random, test: Test) -> Style {
+        Style {
+            test,
+            shortest: 30_000,
+            longest: 200_000,
+            share: random.between(150, 350),
+            slack: random.between(9, 13),
+            weight: 65_535,
+            sections: test == Test::OneJob,
+        }
     }
-}
 
-fn draw_row(random: &mut Random, kind: Kind, style: Style, id: u64) -> Row {
-    let period = random.between(style.shortest, style.longest.max(style.shortest));
-    let share = style.share.saturating_mul(random.between(50, 150)) / 100;
-    let usual = (share.saturating_mul(period) / 1000).clamp(1, period.max(1));
-    let execution = if random.once_in(60) {
-        period.max(1)
-    } else {
-        usual
-    };
-    let most = if kind.window {
-        style.slack.saturating_mul(period) / 10
-    } else {
-        period
-    };
-    let deadline = match random.between(0, 3) {
-        0 => random.between(execution, most),
-        1 => most.max(execution),
-        _ => random.between(period.min(most).max(execution), most),
-    };
-    let section = if style.sections && random.once_in(2) {
-        random.between(0, (execution - 1).min(4095))
-    } else {
-        0
-    };
-    Row {
-        id,
-        tier: random.between(0, 1),
-        weight: random.between(0, style.weight),
-        section,
-        execution,
-        deadline,
-        period,
+    fn row(self, random: &mut Random, id: u64) -> Row {
+        let period = random.between(self.shortest, self.longest.max(self.shortest));
+        let share = self.share.saturating_mul(random.between(50, 150)) / 100;
+        let usual = (share.saturating_mul(period) / 1000).clamp(1, period.max(1));
+        let execution = if random.once_in(60) {
+            period.max(1)
+        } else {
+            usual
+        };
+        let most = match self.test {
+            Test::OneJob => period,
+            Test::Window => self.slack.saturating_mul(period) / 10,
+        };
+        let deadline = match random.between(0, 3) {
+            0 => random.between(execution, most),
+            1 => most.max(execution),
+            _ => random.between(period.min(most).max(execution), most),
+        };
+        let section = if self.sections && random.once_in(2) {
+            random.between(0, (execution - 1).min(4095))
+        } else {
+            0
+        };
+        Row {
+            id,
+            tier: random.between(0, 1),
+            weight: random.between(0, self.weight),
+            section,
+            execution,
+            deadline,
+            period,
+        }
     }
 }
 
 // Two tasks that leave the processor hardly idle, so that busy windows have many jobs: the short one below the long one has about as
 // many as the long one's execution time, on both sides of the limit of 64.
-fn draw_long_window(random: &mut Random) -> Rows {
+fn draw_long_window(random: &mut Random) -> [Row; 2] {
     let long = random.between(61, 67);
     let short = Row {
         id: random.between(0, 31),
@@ -98,9 +103,7 @@ fn draw_long_window(random: &mut Random) -> Rows {
         deadline: long.saturating_add(random.between(0, 4)),
         period: 2,
     };
-    let mut rows = Rows::new();
-    rows.push(short);
-    rows.push(Row {
+    let long = Row {
         id: random.between(32, 63),
         execution: long,
         deadline: random.between(long, 300),
@@ -109,32 +112,37 @@ fn draw_long_window(random: &mut Random) -> Rows {
             .saturating_add(1)
             .saturating_sub(random.between(0, 2)),
         ..short
-    });
-    rows
+    };
+    [short, long]
 }
 
 // One task.
-pub fn draw_one(random: &mut Random, kind: Kind) -> Row {
-    let style = draw_style(random, kind, 5);
+pub fn draw_one(random: &mut Random, test: Test) -> Row {
+    let style = Style::drawn(random, test, 5);
     let id = random.between(0, 63);
-    draw_row(random, kind, style, id)
+    style.row(random, id)
 }
 
-// The tasks of a table for a kind of plan.
-pub fn draw(random: &mut Random, kind: Kind, count: u64) -> Rows {
-    if kind.window && count == 2 && random.once_in(2) {
-        return draw_long_window(random);
+// The tasks of a table for plans with a test.
+pub fn draw(
+    heap: Global,
+    random: &mut Random,
+    test: Test,
+    count: u64,
+) -> Result<Vec<Row>, AllocError> {
+    if test == Test::Window && count == 2 && random.once_in(2) {
+        return Vec::from_slice(heap, &draw_long_window(random));
     }
     let style = if count <= 3 && random.once_in(16) {
-        draw_large(random, kind)
+        Style::large(random, test)
     } else {
-        draw_style(random, kind, count)
+        Style::drawn(random, test, count)
     };
-    let mut rows = Rows::new();
+    let mut rows = Vec::new(heap);
     let mut id = random.between(0, 9);
     for _ in 0..count {
-        rows.push(draw_row(random, kind, style, id.min(63)));
+        rows.push(style.row(random, id.min(63)))?;
         id = id.saturating_add(random.between(1, 8));
     }
-    rows
+    Ok(rows)
 }

@@ -1,5 +1,7 @@
-// What a planner answers.
-use std::alloc::{AllocError, Global};
+// What a planner answers, and why it refuses.
+use std::alloc::AllocError;
+use std::fmt;
+use thiserror::Error;
 
 #[derive(Clone, Copy, PartialEq, Eq, Debug)]
 pub enum Reply {
@@ -12,15 +14,88 @@ pub enum Reply {
     Refused { number: u64, record: u64 },
 }
 
-// A refusal that names no record.
-pub fn turned_down(number: u64) -> Reply {
-    Reply::Refused { number, record: 0 }
+// Why a planner refuses, by the numbers that refusals are told by.
+#[derive(Clone, Copy, PartialEq, Eq, Debug)]
+pub enum Reason {
+    WrongLength = 1,
+    UnknownFormat = 2,
+    SpareBit = 3,
+    OtherKind = 4,
+    OutOfRange = 5,
+    TooLittleTime = 6,
+    SectionTooLong = 7,
+    NotForTest = 8,
+    IdTaken = 9,
+    TooManyTasks = 10,
+    UnknownId = 11,
+    UnderWay = 12,
+    NotBegun = 13,
+    NotFinished = 14,
+    NoTasks = 15,
+    AlwaysLate = 16,
+    TooManySteps = 17,
+    BufferTooSmall = 18,
+    AboveItself = 19,
+    NoRecord = 20,
 }
 
-// The line of a refusal; empty for any other answer.
-pub fn line_of(heap: Global, reply: Reply) -> Result<String, AllocError> {
-    match reply {
-        Reply::Refused { number, record } => format!(in heap; "refused {number} record {record}\n"),
-        _ => Ok(String::new(heap)),
+impl From<Reason> for u64 {
+    fn from(reason: Reason) -> u64 {
+        reason as u64
+    }
+}
+
+impl Reason {
+    // With the record of a table that is refused.
+    pub(crate) fn in_record(self, record: u64) -> Refusal {
+        Refusal {
+            reason: self,
+            record,
+        }
+    }
+}
+
+// A refusal, and the record that it names, or 0.
+#[derive(Clone, Copy, PartialEq, Eq, Debug)]
+pub struct Refusal {
+    reason: Reason,
+    record: u64,
+}
+
+impl From<Reason> for Refusal {
+    fn from(reason: Reason) -> Refusal {
+        reason.in_record(0)
+    }
+}
+
+impl fmt::Display for Refusal {
+    fn fmt<W: fmt::Write>(&self, f: &mut fmt::Formatter<W>) -> fmt::Result {
+        let number = u64::from(self.reason);
+        let record = self.record;
+        write!(f, "refused {number} record {record}")
+    }
+}
+
+impl From<Refusal> for Reply {
+    fn from(refusal: Refusal) -> Reply {
+        Reply::Refused {
+            number: refusal.reason.into(),
+            record: refusal.record,
+        }
+    }
+}
+
+// Why there is no answer: the planner refuses, or has no memory for it.
+#[derive(Debug, Drop, Error)]
+pub enum Failure {
+    #[error("{0}")]
+    Refused(#[from] Refusal),
+    #[error(transparent)]
+    Memory(#[from(alloc)] AllocError),
+}
+
+impl From<Reason> for Failure {
+    fn from(reason: Reason) -> Failure {
+        Failure::Refused(reason.into())
     }
 }

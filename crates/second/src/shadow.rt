@@ -1,266 +1,218 @@
 // The second planner as a plan: its tasks, how far its walk is, and what it answers to each command.
 use crate::every_order::Problem;
-use crate::reply::{Reply, turned_down};
-use crate::table::{Kind, NO_ROW, Row, Rows, read};
+use crate::reply::{Failure, Reason, Refusal, Reply};
+use crate::table::{Kind, Row, read};
 use crate::times::{Times, bit, has, time};
 use crate::walk::{Walk, walk_tree};
 use law::command::Command;
-use std::alloc::{AllocError, Global};
-use tasks::task::Candidate;
+use std::alloc::Global;
 
-// How many vertices are left, once a walk has begun.
-#[derive(Clone, Copy, PartialEq, Eq)]
-enum Stage {
-    Open,
-    Searching(u64),
-    Finished,
-}
-
-#[derive(Clone, Copy)]
-pub struct Shadow {
-    pub kind: Kind,
-    pub rows: Rows,
-    stage: Stage,
+// A walk that was begun: what it finds, and how many of its vertices are left.
+#[derive(Drop)]
+struct Begun {
     found: Walk,
+    left: u64,
 }
 
-fn row_of(candidate: Candidate) -> Row {
-    Row {
-        id: u64::from(candidate.id),
-        tier: u64::from(candidate.tier),
-        weight: u64::from(candidate.weight),
-        section: u64::from(candidate.section),
-        execution: u64::from(candidate.execution),
-        deadline: u64::from(candidate.deadline),
-        period: u64::from(candidate.period),
-    }
-}
-
-fn put(out: &mut [u8], place: usize, byte: u8) {
-    if place < out.len() {
-        out[place] = byte;
-    }
+#[derive(Drop)]
+pub struct Shadow {
+    heap: Global,
+    pub kind: Kind,
+    pub rows: Vec<Row>,
+    begun: Option<Begun>,
 }
 
 impl Shadow {
-    pub fn new(window: bool, tiers: bool) -> Shadow {
+    pub fn new(heap: Global, kind: Kind) -> Shadow {
         Shadow {
-            kind: Kind { window, tiers },
-            rows: Rows::new(),
-            stage: Stage::Open,
-            found: Walk::none(),
+            heap,
+            kind,
+            rows: Vec::new(heap),
+            begun: None,
         }
     }
 
-    pub fn obey(
-        &mut self,
-        heap: Global,
-        command: Command,
-        out: &mut [u8],
-    ) -> Result<Reply, AllocError> {
+    pub fn obey(&mut self, command: Command, out: &mut [u8]) -> Result<Reply, Failure> {
         match command {
-            Command::Load(file) => Ok(self.load(file)),
-            Command::Add(candidate) => Ok(self.add(row_of(candidate))),
-            Command::Drop(id) => Ok(self.give_up(u64::from(id))),
-            Command::Start => self.start(heap),
-            Command::Advance(count) => Ok(self.advance(u64::from(count))),
-            Command::Stop => Ok(self.stop()),
-            Command::Report => Ok(self.report(out)),
+            Command::Load(file) => self.load(file),
+            Command::Add(candidate) => self.add(candidate.into()),
+            Command::Drop(id) => Ok(self.give_up(u64::from(id))?),
+            Command::Start => self.start(),
+            Command::Advance(count) => Ok(self.advance(u64::from(count))?),
+            Command::Stop => Ok(self.stop()?),
+            Command::Report => Ok(self.report(out)?),
         }
     }
 
     pub fn is_under_way(&self) -> bool {
-        matches!(self.stage, Stage::Searching(_))
+        self.begun.as_ref().is_some_and(|begun| begun.left > 0)
     }
 
-    // The order that the walk found.
+    // The order that the walk found; none before a walk.
     pub fn order(&self) -> &[usize] {
-        self.found.best.all()
+        match &self.begun {
+            Some(begun) => &begun.found.best,
+            None => &[],
+        }
     }
 
-    // Other tasks; a walk and its result are given up.
-    fn hold(&mut self, rows: Rows) -> Reply {
-        self.rows = rows;
-        self.stage = Stage::Open;
-        Reply::Done
+    // What the walk found, once it is finished.
+    fn finished(&self) -> Result<&Walk, Reason> {
+        match &self.begun {
+            None => Err(Reason::NotBegun),
+            Some(begun) if begun.left > 0 => Err(Reason::NotFinished),
+            Some(begun) => Ok(&begun.found),
+        }
     }
 
-    fn load(&mut self, file: &[u8]) -> Reply {
+    // Refuses other tasks, or another walk, while one is under way.
+    fn at_rest(&self) -> Result<(), Reason> {
         if self.is_under_way() {
-            return turned_down(12);
-        }
-        match read(self.kind, file) {
-            Ok(rows) => self.hold(rows),
-            Err(refusal) => Reply::Refused {
-                number: refusal.number,
-                record: refusal.record,
-            },
+            Err(Reason::UnderWay)
+        } else {
+            Ok(())
         }
     }
 
-    fn add(&mut self, row: Row) -> Reply {
-        if self.is_under_way() {
-            return turned_down(12);
-        }
-        if let Some(number) = row.fault(self.kind) {
-            return turned_down(number);
-        }
-        if self.rows.find(row.id).is_some() {
-            return turned_down(9);
-        }
-        if self.rows.all().len() == 16 {
-            return turned_down(10);
-        }
-        let rows = self.rows.with(row);
-        self.hold(rows)
+    // The place of the task of an id.
+    fn find(&self, id: u64) -> Result<usize, Reason> {
+        self.rows
+            .iter()
+            .position(|row| row.id == id)
+            .ok_or(Reason::UnknownId)
     }
 
-    fn give_up(&mut self, id: u64) -> Reply {
-        if self.is_under_way() {
-            return turned_down(12);
-        }
-        if self.rows.find(id).is_none() {
-            return turned_down(11);
-        }
-        let rows = self.rows.without(id);
-        self.hold(rows)
+    fn load(&mut self, file: &[u8]) -> Result<Reply, Failure> {
+        self.at_rest()?;
+        self.rows = read(self.heap, self.kind, file)?;
+        self.begun = None;
+        Ok(Reply::Done)
     }
 
-    fn start(&mut self, heap: Global) -> Result<Reply, AllocError> {
-        if self.is_under_way() {
-            return Ok(turned_down(12));
+    fn add(&mut self, row: Row) -> Result<Reply, Failure> {
+        self.at_rest()?;
+        row.check(self.kind.test)?;
+        if self.find(row.id).is_ok() {
+            return Err(Reason::IdTaken.into());
         }
-        let rows = self.rows.all();
-        if rows.is_empty() {
-            return Ok(turned_down(15));
+        if self.rows.len() == 16 {
+            return Err(Reason::TooManyTasks.into());
         }
-        let times = Times::new(heap, self.kind, rows)?;
+        let place = self.rows.partition_point(|other| other.id < row.id);
+        self.rows.insert(place, row)?;
+        self.begun = None;
+        Ok(Reply::Done)
+    }
+
+    fn give_up(&mut self, id: u64) -> Result<Reply, Reason> {
+        self.at_rest()?;
+        let _ = self.find(id)?;
+        self.rows.retain(|row| row.id != id);
+        self.begun = None;
+        Ok(Reply::Done)
+    }
+
+    fn start(&mut self) -> Result<Reply, Failure> {
+        self.at_rest()?;
+        if self.rows.is_empty() {
+            return Err(Reason::NoTasks.into());
+        }
+        let times = Times::new(self.heap, self.kind.test, &self.rows)?;
         let problem = Problem {
             kind: self.kind,
-            rows,
+            rows: &self.rows,
             times: &times,
         };
-        let Some(found) = walk_tree(&problem) else {
-            return Ok(turned_down(16));
-        };
-        self.found = found;
-        self.stage = Stage::Searching(found.vertices);
+        let found = walk_tree(self.heap, &problem)?.ok_or(Reason::AlwaysLate)?;
+        let left = found.vertices;
+        self.begun = Some(Begun { found, left });
         Ok(Reply::Started)
     }
 
-    fn advance(&mut self, most: u64) -> Reply {
-        let left = match self.stage {
-            Stage::Open => return turned_down(13),
-            Stage::Searching(left) => left,
-            Stage::Finished => 0,
-        };
+    fn advance(&mut self, most: u64) -> Result<Reply, Reason> {
+        let begun = self.begun.as_mut().ok_or(Reason::NotBegun)?;
         if most > 1_000_000 {
-            return turned_down(17);
+            return Err(Reason::TooManySteps);
         }
-        let count = left.min(most);
-        let finished = count == left;
-        self.stage = if finished {
-            Stage::Finished
-        } else {
-            Stage::Searching(left - count)
-        };
-        Reply::Advanced { count, finished }
+        let count = begun.left.min(most);
+        begun.left -= count;
+        Ok(Reply::Advanced {
+            count,
+            finished: begun.left == 0,
+        })
     }
 
-    fn stop(&mut self) -> Reply {
-        if self.stage == Stage::Open {
-            return turned_down(13);
-        }
-        self.stage = Stage::Open;
-        Reply::Done
+    fn stop(&mut self) -> Result<Reply, Reason> {
+        self.begun.take().ok_or(Reason::NotBegun)?;
+        Ok(Reply::Done)
+    }
+
+    // The task of a level, and its time below the tasks of a set.
+    fn level(&self, task: usize, above: u64) -> (u64, u64) {
+        let id = self.rows.get(task).copied().unwrap_or_default().id;
+        let response = time(self.kind.test, &self.rows, task, above).unwrap_or(0);
+        (id, response)
     }
 
     // A level of a report is one number: the id, and 26 bits that the time ends.
-    fn report(&self, out: &mut [u8]) -> Reply {
-        match self.stage {
-            Stage::Open => return turned_down(13),
-            Stage::Searching(_) => return turned_down(14),
-            Stage::Finished => {}
-        }
-        let order = self.found.best.all();
-        let size = order.len().saturating_mul(4);
+    fn report(&self, out: &mut [u8]) -> Result<Reply, Reason> {
+        let found = self.finished()?;
+        let size = found.best.len().saturating_mul(4);
         if out.len() < size {
-            return turned_down(18);
+            return Err(Reason::BufferTooSmall);
         }
         let mut above = 0;
-        for (level, task) in order.iter().enumerate() {
-            let row = self.rows.all().get(*task).copied().unwrap_or(NO_ROW);
-            let response = time(self.kind, self.rows.all(), *task, above).unwrap_or(0);
-            let number = row.id.wrapping_mul(1 << 26).wrapping_add(response);
-            for (place, byte) in number.to_be_bytes().iter().skip(4).enumerate() {
-                put(out, level.saturating_mul(4).saturating_add(place), *byte);
-            }
+        for (task, place) in found.best.iter().zip(out.chunks_exact_mut(4)) {
+            let (id, response) = self.level(*task, above);
+            let number = id.wrapping_mul(1 << 26).wrapping_add(response);
+            place.copy_from_slice(&number.to_be_bytes()[4..]);
             above |= bit(*task);
         }
-        Reply::Reported {
+        Ok(Reply::Reported {
             bytes: size as u64,
-            first: self.found.price.first,
-            second: self.found.price.second,
-        }
+            first: found.price.first,
+            second: found.price.second,
+        })
     }
 
-    // The lines of a listing, or why there is none in a buffer of that size.
-    pub fn listing(&self, heap: Global, size: usize) -> Result<(Reply, String), AllocError> {
-        let mut text = String::new(heap);
-        match self.stage {
-            Stage::Open => return Ok((turned_down(13), text)),
-            Stage::Searching(_) => return Ok((turned_down(14), text)),
-            Stage::Finished if size < 512 => return Ok((turned_down(18), text)),
-            Stage::Finished => {}
+    // The lines of a listing, for a buffer of some size.
+    pub fn listing(&self, size: usize) -> Result<String, Failure> {
+        let found = self.finished()?;
+        if size < 512 {
+            return Err(Reason::BufferTooSmall.into());
         }
+        let mut text = String::new(self.heap);
         let mut above = 0;
-        let mut level: u64 = 0;
-        for task in self.order() {
-            let id = self.rows.all().get(*task).copied().unwrap_or(NO_ROW).id;
-            let response = time(self.kind, self.rows.all(), *task, above).unwrap_or(0);
-            level = level.saturating_add(1);
-            text.push_str(format!(in heap; "{level} {id} {response}\n")?.as_str())?;
+        for (level, task) in (1u64..).zip(&found.best) {
+            let (id, response) = self.level(*task, above);
+            writeln!(text, "{level} {id} {response}")?;
             above |= bit(*task);
         }
-        let first = self.found.price.first;
-        let second = self.found.price.second;
-        text.push_str(format!(in heap; "cost {first} {second}\n")?.as_str())?;
-        let bytes = text.len() as u64;
-        Ok((Reply::Listed { bytes }, text))
+        let first = found.price.first;
+        let second = found.price.second;
+        writeln!(text, "cost {first} {second}")?;
+        Ok(text)
     }
 
     // The vertices of the whole tree, counted from the lowest level up.
     pub fn vertex_bound(&self) -> u64 {
-        let mut below: u64 = 0;
-        let mut tasks: u64 = 0;
-        for _ in self.rows.all() {
-            tasks = tasks.saturating_add(1);
-            below = below.saturating_add(1).saturating_mul(tasks);
-        }
-        below
+        (1..).zip(&self.rows).fold(0, |below: u64, (tasks, _)| {
+            below.saturating_add(1).saturating_mul(tasks)
+        })
     }
 
-    // The time of a task with a set of ids above it.
-    pub fn answer(&self, times: &Times, id: u64, above: u64) -> Reply {
-        let Some(task) = self.rows.find(id) else {
-            return turned_down(11);
-        };
+    // The time of a task with a set of ids above it; none where it is late.
+    pub fn answer(&self, times: &Times, id: u64, above: u64) -> Result<Option<u64>, Refusal> {
+        let task = self.find(id)?;
+        if has(above, id as usize) {
+            return Err(Reason::AboveItself.into());
+        }
         let mut places = 0;
-        let mut strange = false;
         for other in 0..64u64 {
             if has(above, other as usize) {
-                match self.rows.find(other) {
-                    Some(place) => places |= bit(place),
-                    None => strange = true,
-                }
+                places |= bit(self.find(other)?);
             }
         }
-        if has(places, task) {
-            turned_down(19)
-        } else if strange {
-            turned_down(11)
-        } else {
-            Reply::Answered(times.get(task, places))
-        }
+        Ok(times.get(task, places))
     }
 }

@@ -1,11 +1,11 @@
 // The second planner's tasks, and its own reading and packing of a table: a record is one number of 96 bits, and fields are taken off
 // its end by division.
-ghost use Rattle.std.specs.Prelude.{◌≤◌};
-
+use crate::reply::{Failure, Reason, Refusal};
 use std::alloc::{AllocError, Global};
+use tasks::task::Candidate;
 
 // The numbers of a task.
-#[derive(Clone, Copy, Debug)]
+#[derive(Clone, Copy, Debug, Default)]
 pub struct Row {
     pub id: u64,
     pub tier: u64,
@@ -17,130 +17,94 @@ pub struct Row {
 }
 
 impl Row {
-    // The number of the first rule that a task breaks by itself.
-    pub fn fault(&self, kind: Kind) -> Option<u64> {
+    // The first rule that a task breaks by itself.
+    pub fn check(&self, test: Test) -> Result<(), Reason> {
         let times = [self.execution, self.deadline, self.period];
-        let admitted = if kind.window {
-            self.section == 0
-        } else {
-            self.deadline <= self.period
+        let admitted = match test {
+            Test::OneJob => self.deadline <= self.period,
+            Test::Window => self.section == 0,
         };
         if self.id > 63 || self.tier > 1 || self.weight > 65_535 || self.section > 4_095 {
-            Some(5)
+            Err(Reason::OutOfRange)
         } else if times.contains(&0) || times.iter().max() > Some(&1_048_575) {
-            Some(5)
+            Err(Reason::OutOfRange)
         } else if self.period < self.execution || self.deadline < self.execution {
-            Some(6)
+            Err(Reason::TooLittleTime)
         } else if self.execution <= self.section {
-            Some(7)
+            Err(Reason::SectionTooLong)
         } else if !admitted {
-            Some(8)
+            Err(Reason::NotForTest)
         } else {
-            None
+            Ok(())
         }
     }
 }
 
-pub const NO_ROW: Row = Row {
-    id: 0,
-    tier: 0,
-    weight: 0,
-    section: 0,
-    execution: 0,
-    deadline: 0,
-    period: 0,
-};
-
-// At most sixteen tasks.
-#[derive(Clone, Copy)]
-pub struct Rows {
-    count: usize,
-    places: [Row; 16],
-    ghost few: { count ≤ 16 },
-}
-
-impl Rows {
-    pub fn new() -> Rows {
-        Rows {
-            count: 0,
-            places: [NO_ROW; 16],
+impl From<Candidate> for Row {
+    fn from(candidate: Candidate) -> Row {
+        Row {
+            id: u64::from(candidate.id),
+            tier: u64::from(candidate.tier),
+            weight: u64::from(candidate.weight),
+            section: u64::from(candidate.section),
+            execution: u64::from(candidate.execution),
+            deadline: u64::from(candidate.deadline),
+            period: u64::from(candidate.period),
         }
-    }
-
-    pub fn push(&mut self, row: Row) {
-        if self.count < 16 {
-            self.places[self.count] = row;
-            self.count += 1;
-        }
-    }
-
-    pub fn all(&self) -> &[Row] {
-        &self.places[0..self.count]
-    }
-
-    // The place of the task of an id.
-    pub fn find(&self, id: u64) -> Option<usize> {
-        for (place, row) in self.all().iter().enumerate() {
-            if row.id == id {
-                return Some(place);
-            }
-        }
-        None
-    }
-
-    // With one task more, by id.
-    pub fn with(&self, row: Row) -> Rows {
-        let mut rows = Rows::new();
-        for other in self.all() {
-            if other.id < row.id {
-                rows.push(*other);
-            }
-        }
-        rows.push(row);
-        for other in self.all() {
-            if other.id > row.id {
-                rows.push(*other);
-            }
-        }
-        rows
-    }
-
-    pub fn without(&self, id: u64) -> Rows {
-        let mut rows = Rows::new();
-        for other in self.all() {
-            if other.id != id {
-                rows.push(*other);
-            }
-        }
-        rows
     }
 }
 
-// The window test or the one-job test; tiers or the sum.
-#[derive(Clone, Copy)]
+fn narrow(number: u64) -> u32 {
+    u32::try_from(number).unwrap_or(u32::MAX)
+}
+
+// A number that is too large becomes the largest.
+impl From<Row> for Candidate {
+    fn from(row: Row) -> Candidate {
+        Candidate {
+            id: narrow(row.id),
+            tier: narrow(row.tier),
+            weight: narrow(row.weight),
+            section: narrow(row.section),
+            execution: narrow(row.execution),
+            deadline: narrow(row.deadline),
+            period: narrow(row.period),
+        }
+    }
+}
+
+// What a task is tested by: one job, or each job of its busy window.
+#[derive(Clone, Copy, PartialEq, Eq, Debug)]
+pub enum Test {
+    OneJob,
+    Window,
+}
+
+// What an order costs: the sum of all tasks, or one sum for each tier.
+#[derive(Clone, Copy, PartialEq, Eq, Debug)]
+pub enum Pricing {
+    Sum,
+    Tiers,
+}
+
+#[derive(Clone, Copy, PartialEq, Eq, Debug)]
 pub struct Kind {
-    pub window: bool,
-    pub tiers: bool,
+    pub test: Test,
+    pub pricing: Pricing,
 }
 
-// The number of a refusal, and its record.
-#[derive(Clone, Copy, PartialEq, Eq)]
-pub struct Refusal {
-    pub number: u64,
-    pub record: u64,
-}
-
-fn refused<T: Drop>(number: u64, record: u64) -> Result<T, Refusal> {
-    Err(Refusal { number, record })
+impl Kind {
+    // The codes of the test and of what an order costs, as digits to the base 4.
+    fn code(self) -> u64 {
+        4 * self.test as u64 + self.pricing as u64
+    }
 }
 
 // The bytes as one number, the first byte the largest part.
 fn joined(bytes: &[u8]) -> u128 {
-    let mut all: u128 = 0;
-    for byte in bytes {
-        all = all.wrapping_mul(256).wrapping_add(u128::from(*byte));
-    }
-    all
+    bytes
+        .iter()
+        .fold(0, |all, byte| behind(all, 256, u64::from(*byte)))
 }
 
 // Takes the last digit to a base off a number.
@@ -151,7 +115,8 @@ fn last(all: &mut u128, base: u64) -> u64 {
     u64::try_from(digit).unwrap_or(0)
 }
 
-fn read_row(kind: Kind, bytes: &[u8], record: u64, floor: u64) -> Result<Row, Refusal> {
+// A task of a table, if its id is not below `floor`.
+fn read_row(test: Test, bytes: &[u8], floor: u64) -> Result<Row, Reason> {
     let mut all = joined(bytes);
     let period = last(&mut all, 1 << 20);
     let deadline = last(&mut all, 1 << 20);
@@ -171,54 +136,55 @@ fn read_row(kind: Kind, bytes: &[u8], record: u64, floor: u64) -> Result<Row, Re
         period,
     };
     if spare == 1 {
-        return refused(3, record);
+        return Err(Reason::SpareBit);
     }
-    if let Some(number) = row.fault(kind) {
-        return refused(number, record);
-    }
+    row.check(test)?;
     if id < floor {
-        refused(9, record)
+        Err(Reason::IdTaken)
     } else {
         Ok(row)
     }
 }
 
-fn read_rows(kind: Kind, records: &[u8]) -> Result<Rows, Refusal> {
-    let mut rows = Rows::new();
+fn read_rows(heap: Global, test: Test, records: &[u8]) -> Result<Vec<Row>, Failure> {
+    let mut rows = Vec::new(heap);
     let mut floor = 0;
-    let mut record: u64 = 0;
-    for bytes in records.chunks(12) {
-        record = record.saturating_add(1);
-        let row = read_row(kind, bytes, record, floor)?;
+    for (bytes, record) in records.chunks(12).zip(1..) {
+        let row = read_row(test, bytes, floor).map_err(|reason| reason.in_record(record))?;
         floor = row.id.saturating_add(1);
-        rows.push(row);
+        rows.push(row)?;
     }
     Ok(rows)
 }
 
-// The tasks of a table, or its first fault.
-pub fn read(kind: Kind, file: &[u8]) -> Result<Rows, Refusal> {
-    let [first, second, records @ ..] = file else {
-        return refused(1, 0);
-    };
-    let mut header = u128::from(*first) * 256 + u128::from(*second);
+// The count of tasks that a header names.
+fn read_header(kind: Kind, mut header: u128) -> Result<u64, Reason> {
     let count = last(&mut header, 32);
     let spare = last(&mut header, 8);
-    let cost = last(&mut header, 4);
-    let test = last(&mut header, 4);
+    let code = last(&mut header, 16);
     if header != 1 {
-        refused(2, 0)
+        Err(Reason::UnknownFormat)
     } else if spare > 0 {
-        refused(3, 0)
-    } else if test != u64::from(kind.window) || cost != u64::from(kind.tiers) {
-        refused(4, 0)
+        Err(Reason::SpareBit)
+    } else if code != kind.code() {
+        Err(Reason::OtherKind)
     } else if count > 16 {
-        refused(10, 0)
-    } else if records.len() as u64 != count.saturating_mul(12) {
-        refused(1, 0)
+        Err(Reason::TooManyTasks)
     } else {
-        read_rows(kind, records)
+        Ok(count)
     }
+}
+
+// The tasks of a table, or its first fault.
+pub fn read(heap: Global, kind: Kind, file: &[u8]) -> Result<Vec<Row>, Failure> {
+    let [first, second, records @ ..] = file else {
+        return Err(Reason::WrongLength.into());
+    };
+    let count = read_header(kind, joined(&[*first, *second]))?;
+    if records.len() as u64 != count.saturating_mul(12) {
+        return Err(Reason::WrongLength.into());
+    }
+    read_rows(heap, kind.test, records)
 }
 
 // A digit to a base behind a number.
@@ -242,18 +208,10 @@ fn packed_row(row: &Row) -> [u8; 16] {
 // The bytes of a table.
 pub fn packed(heap: Global, kind: Kind, rows: &[Row]) -> Result<Vec<u8>, AllocError> {
     let mut file = Vec::new(heap);
-    let mut head = 16;
-    if kind.window {
-        head += 4;
-    }
-    if kind.tiers {
-        head += 1;
-    }
-    file.push(head)?;
+    file.push(u8::try_from(behind(1, 16, kind.code())).unwrap_or(255))?;
     file.push(u8::try_from(rows.len()).unwrap_or(255))?;
     for row in rows {
-        let bytes = packed_row(row);
-        file.extend_from_slice(&bytes[4..16])?;
+        file.extend_from_slice(&packed_row(row)[4..])?;
     }
     Ok(file)
 }

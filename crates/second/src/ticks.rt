@@ -1,7 +1,7 @@
 // A tick machine: plays an order tick by tick, and looks whether a job takes longer than its task's time.
 use crate::every_order::Problem;
 use crate::random::Random;
-use crate::table::{NO_ROW, Row};
+use crate::table::Row;
 use std::alloc::{AllocError, Global};
 
 #[derive(Clone, Copy)]
@@ -10,6 +10,13 @@ struct Job {
     release: u64,
     need: u64,
     run: u64,
+}
+
+impl Job {
+    // How long the job took, if it ends with a tick.
+    fn spent(self, tick: u64) -> u64 {
+        tick.saturating_add(1).saturating_sub(self.release)
+    }
 }
 
 // A level of the order: its task, the time reported for it, its next release, and the longest that a job took.
@@ -29,10 +36,6 @@ pub enum Workload {
 }
 
 impl Workload {
-    pub fn is_worst(&self) -> bool {
-        matches!(self, Workload::Worst)
-    }
-
     // How many ticks from 0 the first release comes.
     fn first(&mut self, row: Row) -> u64 {
         match self {
@@ -66,12 +69,13 @@ impl Workload {
     }
 }
 
-// The machine: its levels, the pending jobs by release, and which of them ran last.
+// The machine: its levels, the pending jobs by release, which of them ran last, and what says when jobs come.
 #[derive(Drop)]
 pub struct Machine {
     pub lanes: Vec<Lane>,
     pending: Vec<Job>,
     kept: Option<usize>,
+    workload: Workload,
     pub ended: u64,
     pub late: u64,
 }
@@ -82,11 +86,11 @@ impl Machine {
         problem: &Problem,
         order: &[usize],
         times: &[u64],
-        workload: &mut Workload,
+        mut workload: Workload,
     ) -> Result<Machine, AllocError> {
         let mut lanes = Vec::new(heap);
         for (task, time) in order.iter().zip(times) {
-            let row = problem.rows.get(*task).copied().unwrap_or(NO_ROW);
+            let row = problem.rows.get(*task).copied().unwrap_or_default();
             lanes.push(Lane {
                 row,
                 time: *time,
@@ -98,25 +102,24 @@ impl Machine {
             lanes,
             pending: Vec::new(heap),
             kept: None,
+            workload,
             ended: 0,
             late: 0,
         })
     }
 
     // Releases the jobs of a tick.
-    fn release(&mut self, tick: u64, workload: &mut Workload) -> Result<(), AllocError> {
-        for level in 0..self.lanes.len() {
-            if let Some(lane) = self.lanes.get_mut(level) {
-                if lane.next <= tick {
-                    let row = lane.row;
-                    lane.next = tick.saturating_add(workload.gap(row));
-                    self.pending.push(Job {
-                        level,
-                        release: tick,
-                        need: workload.need(row),
-                        run: 0,
-                    })?;
-                }
+    fn release(&mut self, tick: u64) -> Result<(), AllocError> {
+        for (level, lane) in self.lanes.iter_mut().enumerate() {
+            if lane.next <= tick {
+                let row = lane.row;
+                lane.next = tick.saturating_add(self.workload.gap(row));
+                self.pending.push(Job {
+                    level,
+                    release: tick,
+                    need: self.workload.need(row),
+                    run: 0,
+                })?;
             }
         }
         Ok(())
@@ -124,19 +127,13 @@ impl Machine {
 
     // The pending job that runs next, by its place.
     fn chosen(&self) -> Option<usize> {
-        if self.kept.is_some() {
-            return self.kept;
-        }
-        let mut found: Option<(usize, usize)> = None;
-        for (place, job) in self.pending.iter().enumerate() {
-            if is_above(job.level, found) {
-                found = Some((place, job.level));
-            }
-        }
-        match found {
-            Some((place, _)) => Some(place),
-            None => None,
-        }
+        self.kept.or_else(|| {
+            self.pending
+                .iter()
+                .enumerate()
+                .min_by_key(|(_, job)| job.level)
+                .map(|(place, _)| place)
+        })
     }
 
     // Runs one job for a tick.
@@ -150,7 +147,6 @@ impl Machine {
         };
         job.run = job.run.saturating_add(1);
         let job = *job;
-        let taken = tick.saturating_add(1).saturating_sub(job.release);
         let Some(lane) = self.lanes.get_mut(job.level) else {
             return;
         };
@@ -158,53 +154,40 @@ impl Machine {
             self.kept = Some(place);
         }
         if job.run >= job.need {
-            lane.longest = lane.longest.max(taken);
+            lane.longest = lane.longest.max(job.spent(tick));
             self.ended = self.ended.saturating_add(1);
             let _ = self.pending.remove(place);
         }
     }
 
-    // Counts the jobs that are pending after a tick although their time is over, or took longer.
-    fn judge(&mut self, tick: u64) {
-        for job in &self.pending {
-            let spent = tick.saturating_add(1).saturating_sub(job.release);
-            if let Some(lane) = self.lanes.get(job.level) {
-                if lane.time <= spent {
-                    self.late = self.late.saturating_add(1);
-                }
-            }
-        }
-        for lane in &self.lanes {
-            if lane.time < lane.longest {
-                self.late = self.late.saturating_add(1);
-            }
-        }
+    // Whether the time of a job's level is over after a tick.
+    fn is_late(&self, job: &Job, tick: u64) -> bool {
+        self.lanes
+            .get(job.level)
+            .is_some_and(|lane| lane.time <= job.spent(tick))
     }
 
-    // Whether some job of each level took as long as its time.
-    pub fn reached(&self) -> bool {
-        for lane in &self.lanes {
-            if lane.longest != lane.time {
-                return false;
-            }
-        }
-        true
+    // Counts the jobs that are pending after a tick although their time is over, or took longer.
+    fn judge(&mut self, tick: u64) {
+        let pending = self.pending.iter().filter(|job| self.is_late(job, tick));
+        let longer = self.lanes.iter().filter(|lane| lane.time < lane.longest);
+        let late = pending.count() as u64 + longer.count() as u64;
+        self.late = self.late.saturating_add(late);
+    }
+
+    // Whether the workload is the worst, and yet some level had no job that took as long as its time.
+    pub fn missed_worst(&self) -> bool {
+        matches!(self.workload, Workload::Worst)
+            && self.lanes.iter().any(|lane| lane.longest != lane.time)
     }
 
     // Plays some ticks from 0.
-    pub fn play(&mut self, ticks: u64, workload: &mut Workload) -> Result<(), AllocError> {
+    pub fn play(&mut self, ticks: u64) -> Result<(), AllocError> {
         for tick in 0..ticks {
-            self.release(tick, workload)?;
+            self.release(tick)?;
             self.run(tick);
             self.judge(tick);
         }
         Ok(())
-    }
-}
-
-fn is_above(level: usize, found: Option<(usize, usize)>) -> bool {
-    match found {
-        Some((_, old)) => level < old,
-        None => true,
     }
 }

@@ -1,12 +1,13 @@
 // The second planner's branch and bound. It keeps one path and no stack: the vertices are met in the order of their paths, so the next one is
 // below the path, or beside it, or beside one of its ancestors.
-use crate::every_order::{Path, Price, Problem};
+use crate::every_order::{Price, Problem};
 use crate::times::{bit, every, has};
+use std::alloc::{AllocError, Global};
 
 // The best order, its price, and how many vertices were met.
-#[derive(Clone, Copy)]
+#[derive(Drop)]
 pub struct Walk {
-    pub best: Path,
+    pub best: Vec<usize>,
     pub price: Price,
     pub vertices: u64,
 }
@@ -16,139 +17,98 @@ const MOST_VERTICES: u64 = 1_000_000;
 
 // Of the tasks of a set the cheapest below all others of the set; the first of equals.
 fn lowest(problem: &Problem, unplaced: u64) -> Option<usize> {
-    let mut found: Option<(usize, Price)> = None;
-    for task in 0..problem.rows.len() {
-        if has(unplaced, task) {
-            if let Some(price) = problem.price(task, unplaced & !bit(task)) {
-                if is_below(price, found) {
-                    found = Some((task, price));
-                }
-            }
-        }
-    }
-    match found {
-        Some((task, _)) => Some(task),
-        None => None,
-    }
+    (0..problem.rows.len())
+        .filter(|task| has(unplaced, *task))
+        .filter_map(|task| Some((problem.price(task, unplaced & !bit(task))?, task)))
+        .min()
+        .map(|(_, task)| task)
 }
 
-fn is_below(price: Price, found: Option<(usize, Price)>) -> bool {
-    match found {
-        Some((_, old)) => price < old,
-        None => true,
-    }
-}
-
-// The first order, from the lowest level up.
-fn first_order(problem: &Problem) -> Option<Path> {
+// The first order, from the lowest level up; none where no order passes.
+fn first_order(heap: Global, problem: &Problem) -> Result<Option<Vec<usize>>, AllocError> {
     let count = problem.rows.len();
-    let mut upward = Path::new();
+    let mut order = Vec::new(heap);
     let mut unplaced = every(count);
     for _ in 0..count {
-        let task = lowest(problem, unplaced)?;
-        upward.push(task);
+        let Some(task) = lowest(problem, unplaced) else {
+            return Ok(None);
+        };
+        order.push(task)?;
         unplaced &= !bit(task);
     }
-    let mut order = Path::new();
-    for task in upward.all().iter().rev() {
-        order.push(*task);
-    }
-    Some(order)
+    order.reverse();
+    Ok(Some(order))
 }
 
 // The price of a path and of every other task right below it; none where one is late.
 fn bound(problem: &Problem, path: &[usize], price: Price) -> Option<Price> {
-    let mut placed = 0;
-    for task in path {
-        placed |= bit(*task);
-    }
+    let placed = path.iter().fold(0, |set, task| set | bit(*task));
     let mut total = price;
-    for task in 0..problem.rows.len() {
-        if !has(placed, task) {
-            total = total.plus(problem.price(task, placed)?);
-        }
+    for task in (0..problem.rows.len()).filter(|task| !has(placed, *task)) {
+        total = total + problem.price(task, placed)?;
     }
     Some(total)
 }
 
 impl Walk {
-    pub fn none() -> Walk {
-        Walk {
-            best: Path::new(),
-            price: Price::zero(),
-            vertices: 0,
-        }
-    }
-
     // Looks at the vertex of a path, and says whether the vertices below it are to be met.
-    fn meet(&mut self, problem: &Problem, path: Path) -> bool {
+    fn meet(&mut self, problem: &Problem, path: &[usize]) -> Result<bool, AllocError> {
         self.vertices = self.vertices.saturating_add(1);
-        let tasks = path.all();
-        let Some(price) = problem.path_price(tasks) else {
-            return false;
+        let Some(price) = problem.path_price(path) else {
+            return Ok(false);
         };
-        if tasks.len() == problem.rows.len() {
-            if price < self.price {
-                self.best = path;
-                self.price = price;
-            }
-            return false;
+        if path.len() < problem.rows.len() {
+            return Ok(bound(problem, path, price).is_some_and(|bound| bound < self.price));
         }
-        match bound(problem, tasks, price) {
-            Some(bound) => bound < self.price,
-            None => false,
+        if price < self.price {
+            self.best.clear();
+            self.best.extend_from_slice(path)?;
+            self.price = price;
         }
+        Ok(false)
     }
 }
 
-// Puts the least task from `from` on that is not on the path at its end.
-fn extend(path: &mut Path, count: usize, from: usize) -> bool {
-    for task in from..count {
-        let on_path = path.all().contains(&task);
-        if !on_path {
-            path.push(task);
-            return true;
-        }
-    }
-    false
+// The least task from `from` on that is not on the path.
+fn beside(path: &[usize], count: usize, from: usize) -> Option<usize> {
+    (from..count).find(|task| !path.contains(task))
 }
 
-// The next path; the empty one if there is none.
-fn go_on(path: &mut Path, count: usize, below: bool) {
-    if below && extend(path, count, 0) {
-        return;
+// Cuts a path back to where the next path goes on, and gives the next path's last task; none where there is no next path.
+fn next_task(path: &mut Vec<usize>, count: usize, below: bool) -> Option<usize> {
+    if below && let Some(task) = beside(path, count, 0) {
+        return Some(task);
     }
-    for _ in 0..count {
-        let Some(task) = path.pop() else {
-            return;
-        };
-        if extend(path, count, task.saturating_add(1)) {
-            return;
+    for _ in 0..path.len() {
+        let last = path.pop()?;
+        if let Some(task) = beside(path, count, last.saturating_add(1)) {
+            return Some(task);
         }
     }
+    None
 }
 
-// The walk over the tasks of a table; none where no order passes, or there is no task.
-pub fn walk_tree(problem: &Problem) -> Option<Walk> {
-    if problem.rows.is_empty() {
-        return None;
-    }
-    let best = first_order(problem)?;
-    let price = problem.path_price(best.all())?;
-    let count = problem.rows.len();
+// The walk over the tasks of a table; none where no order passes.
+pub fn walk_tree(heap: Global, problem: &Problem) -> Result<Option<Walk>, AllocError> {
+    let Some(best) = first_order(heap, problem)? else {
+        return Ok(None);
+    };
+    let Some(price) = problem.path_price(&best) else {
+        return Ok(None);
+    };
     let mut found = Walk {
         best,
         price,
         vertices: 0,
     };
-    let mut path = Path::new();
-    let _ = extend(&mut path, count, 0);
+    let mut path = Vec::new(heap);
+    let mut below = true;
     for _ in 0..MOST_VERTICES {
-        if path.all().is_empty() {
+        let Some(task) = next_task(&mut path, problem.rows.len(), below) else {
             break;
-        }
-        let below = found.meet(problem, path);
-        go_on(&mut path, count, below);
+        };
+        path.push(task)?;
+        below = found.meet(problem, &path)?;
     }
-    Some(found)
+    Ok(Some(found))
 }
