@@ -1,5 +1,6 @@
 -- A plan's state and its search.
-use Rattle.std.proofs.Common.{◌≡◌, ℕ, zero, suc, ◌<◌, ◌≤◌, Bool, true, false, cond, ltb, List, length, Some, None, Ok, Err, sym, refl, ap, ◌∙◌, subst, arith, lt-ltb, eqb-true}
+use Rattle.std.proofs.Common.{◌≡◌, ℕ, zero, suc, ◌<◌, ◌≤◌, Bool, true, false, cond, ltb, List, length, Some, None, Ok, Err, sym, refl, ap, ◌∙◌, subst, arith, lt-ltb, eqb, eqb-true}
+use Rattle.std.proofs.lemmas.Bool.{false≢true}
 use mathlib.Core.HLevel.{is_prop→PathP}
 use mathlib.Core.Bool.{Bool-set}
 use Rattle.tasks.specs.declared.fault.Fault.TheVariants.{Plan as PlanFault}
@@ -27,6 +28,11 @@ during s held size e h = eqb-true held size (rw e at h)
 
 pub beyond : (s : State) (held size : ℕ) → s ≡ Finished → matched s held size ≡ true → held ≡ size
 beyond s held size e h = eqb-true held size (rw e at h)
+
+-- a list that is not empty has an item
+pub some_held : (n : ℕ) (empty : Bool) → empty ≡ eqb n 0 → empty ≡ false → 0 < n
+some_held zero empty is full = absurd (false≢true (sym full ∙ is))
+some_held (suc n) empty is full = omega arith
 
 -- at most as many vertices are examined as are asked for
 module _ {V : Type 0} (n : ℕ) (answer : Test) (c : Cost V) where

@@ -21,7 +21,7 @@ impl<T: ResponseTest + Drop, C: Cost + Drop> Plan<T, C> {
         let held = self.tasks.as_slice();
         let ids = TaskSet { word: above };
         let position = find(held, id).ok_or(PlanFault::NotHeld)?;
-        if ids.contains(id as usize) {
+        if ids.contains(usize::from(id)) {
             return Err(Fault::Plan(PlanFault::AboveItself));
         }
         if !are_held(held, ids) {

@@ -35,7 +35,7 @@ impl<T: ResponseTest + Drop, C: Cost + Drop> Plan<T, C> {
         ensures { Served (means T.Admission T.ResponseTest.own C.Cost self.old) Start self.old self.new (told (λ _. Started) result) }
     {
         let held = self.tasks.as_slice();
-        if held.len() == 0 {
+        if held.is_empty() {
             return Err(Fault::Plan(PlanFault::NoTask));
         }
         self.search.start(Problem {

@@ -29,7 +29,7 @@ loop-i-preserved c =
     let twice : 2 ^ (i + 1) ≡ 2 * 2 ^ i = rw add-one (pow_step 2 i) in
     let task : get_or (map plain ts) i no_task ≡ plain c.index-tasks-i.result
     = get_or-map plain ts i c.index-tasks-i.result no_task c.loop-i-test.true ∙ ap plain (sym c.index-tasks-i.is) in
-    let member : holds ids (get_or (map plain ts) i no_task).id ≡ c.contains.result = ap (λ t. holds ids t.id) task ∙ sym c.contains.ensures in
+    let member : holds ids (get_or (map plain ts) i no_task).id ≡ c.contains.result = ap (λ t. holds ids t.id) task ∙ sym (c.contains.ensures ∙ ap (holds ids) c.from.ensures) in
     elim c.if-contains.branch [
       | then-contains w ↦ (
         w.word-is ∙ bit_in ids (map plain ts) i c.loop-i.word _ (member ∙ w.if-contains.true) bit c.loop-i.invariant.0,
