@@ -76,7 +76,6 @@ module _ (n : ℕ) (o : List ℕ) (order : Order n o) where
   pub above_lacks : (level j : ℕ) → count j (take level o) ≡ 0 → holds (word (take level o)) j ≡ false
   above_lacks level = holds_absent (take level o) (once_above level)
 
-  -- a set that holds just the tasks above a level is their word
   -- the tasks above a level fit in a set where all do
   pub above_small : n ≤ 64 → (level i : ℕ) → 0 < count i (take level o) → i < 64
   above_small few level i some = elim (cases_lt i n) [
@@ -84,6 +83,7 @@ module _ (n : ℕ) (o : List ℕ) (order : Order n o) where
     | inr g ↦ absurd (omega (arith, order.else_none i g, count_take i level o))
   ]
 
+  -- a set that holds just the tasks above a level is their word
   pub above_word : (level w : ℕ) → ((j : ℕ) → holds w j ≡ ltb 0 (count j (take level o))) → w ≡ word (take level o)
   above_word level w h =
       same_bits w (word (take level o)) (λ j. elim (cases_lt 0 (count j (take level o))) [
