@@ -12,7 +12,8 @@ use Rattle.costs.specs.Prices.{Prices, Lawful}
 use Rattle.costs.specs.Folds.{no_task}
 use Rattle.orders.specs.Orders.{Monotone}
 use Rattle.orders.specs.Costs.{Laws}
-use Rattle.search.specs.Model.{priced, Admitted}
+use Rattle.orders.proofs.Firsts.{first_order_is_exact}
+use Rattle.search.specs.Model.{priced, Admitted, FirstExact}
 
 pub laws_of : {V : Type 0} (p : Prices V) → Lawful p → (held : List Candidate) → Laws (priced p held)
 laws_of p laws held = record {
@@ -35,6 +36,13 @@ pub held_of : (tasks : List Task) (admits : Timing → Bool) → Admitted admits
 held_of tasks admits all i h =
     let many = length-map (map plain tasks) timing_of in
     (tasks_legal tasks i (omega (arith, length-map tasks plain)), all i (omega arith))
+
+-- the first order is exact for admitted tasks
+pub exact_of : {V : Type 0} (admits : Timing → Bool) (answer : response.Answers) → response.Monotone admits answer → (p : Prices V) (tasks : List Task)
+    → Admitted admits (map plain tasks) → FirstExact answer p (map plain tasks)
+exact_of admits answer mono p tasks all =
+    let held = map plain tasks in
+    first_order_is_exact _ (length held) (answer (timings held)) (priced p held) (monotone_of admits answer mono held (held_of tasks admits all))
 
 -- what a test answers for the tasks of a slice
 pub asked : (answer : response.Answers) (held slice : List Task) → slice ≡ held → (i above : ℕ)

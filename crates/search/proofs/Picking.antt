@@ -1,5 +1,5 @@
 -- The cheapest task for a level, from the last position down; and the levels from the lowest up.
-use Rattle.std.proofs.Common.{◌≡◌, ℕ, ◌-◌, ◌<◌, ◌≤◌, Bool, true, false, not, ◌&&◌, eqb, ltb, ◌⊎◌, List, [], ◌∷◌, drop, IfSome, Some, None, filter, Option, sym, refl, ap, ◌∙◌, subst, ap₂, inl, inr, arith}
+use Rattle.std.proofs.Common.{◌≡◌, ℕ, ◌-◌, ◌<◌, ◌≤◌, Bool, true, false, not, ◌&&◌, eqb, ltb, ◌⊎◌, List, [], ◌∷◌, drop, IfSome, Some, filter, Option, sym, refl, ap, ◌∙◌, subst, ap₂, inl, inr, arith}
 use Rattle.std.proofs.lemmas.List.{drop_all}
 use Rattle.std.proofs.lemmas.Bool.{eq-eqb, ne_eqb, lt-ltb, le-ltb, cases_lt, cases_eq, cond-true, cond-false}
 use Rattle.tasks.specs.Sets.{holds}
@@ -97,7 +97,3 @@ lacking_none n lower = ap (filter (λ j. eqb (count j lower) 0)) (drop_all n (up
 pub among_either : (n w : ℕ) (r pick : Pick) (other : Option Pick) → (r ≡ pick) ⊎ (Some r ≡ other) → Among n w pick → IfSome other (Among n w) → Among n w r
 among_either n w r pick other (inl e) a b = subst (Among n w) (sym e) a
 among_either n w r pick other (inr e) a b = subst (λ o. IfSome o (Among n w)) (sym e) b
-
-pub both_low : (n w : ℕ) (o : Option Pick) → IfSome o (Among n w) → IfSome o (λ d. d.position < n)
-both_low n w None h = tt
-both_low n w (Some d) h = h.low

@@ -1,8 +1,7 @@
 -- What is pushed on the stack, and that there is room for it.
-use Rattle.std.proofs.Common.{◌≡◌, ℕ, zero, suc, ◌+◌, ◌-◌, ◌<◌, ◌≤◌, Bool, true, false, cond, not, ◌&&◌, ltb, List, [], ◌∷◌, ◌++◌, map, reverse, length, get_or, take, drop, Some, None, filter, Option, sym, ap, ◌∙◌, ap₂, inl, inr, arith, length-append}
-use Rattle.std.specs.Option.{option_to_list}
-use Rattle.std.proofs.lemmas.List.{length-map, reverse-append, append-nil, length-reverse, drop_more, drop_all, take-append-drop, get_or_append_left, get_or_push}
-use Rattle.std.proofs.lemmas.Bool.{and_parts, ltb-true, lt-ltb, cond-true, cond-false, cases_lt}
+use Rattle.std.proofs.Common.{◌≡◌, ℕ, zero, suc, ◌+◌, ◌-◌, ◌<◌, ◌≤◌, Bool, true, false, cond, not, ltb, List, [], ◌∷◌, ◌++◌, map, reverse, length, get_or, take, drop, filter, sym, ap, ◌∙◌, ap₂, inl, inr, arith, length-append}
+use Rattle.std.proofs.lemmas.List.{length-map, reverse-append, length-reverse, drop_more, drop_all, take-append-drop, get_or_append_left, get_or_push}
+use Rattle.std.proofs.lemmas.Bool.{lt-ltb, cond-true, cond-false, cases_lt}
 use Rattle.tasks.specs.Sets.{holds, members}
 use Rattle.search.specs.declared.ranking.Ranking.{Ranking}
 use Rattle.search.specs.declared.vertex.Vertex.{Vertex}
@@ -13,55 +12,10 @@ use Rattle.orders.proofs.Counts.{length_unplaced, length_upto}
 use Rattle.orders.proofs.Members.{unplaced_word}
 use Rattle.search.proofs.Rankings.{front, level_is}
 
-turned : (ys : List Vertex) (r : Option Vertex) → reverse (ys ++ option_to_list r) ≡ option_to_list r ++ reverse ys
-turned ys None = ap reverse (append-nil ys)
-turned ys (Some v) = reverse-append ys (v ∷ [])
-
--- ---- a vertex is taken off
-
-module _ (n : ℕ) (xs ys : List Vertex) where
-  pub popped : (r : Option Vertex) → xs ≡ ys ++ option_to_list r → map waiting (reverse xs) ≡ map waiting (option_to_list r) ++ map waiting (reverse ys)
-  popped None e = ap (λ zs. map waiting (reverse zs)) e ∙ ap (map waiting) (turned ys None)
-  popped (Some v) e = ap (λ zs. map waiting (reverse zs)) e ∙ ap (map waiting) (turned ys (Some v))
-
-  -- what is known of it
-  pub record Off (v : Vertex) : Type 0 where
-    pub low : v.task < n
-    pub above : all_below n (ranks v.above) ≡ true
-    pub under : length ys < room (suc (members v.above.placed.word))
-    pub rest : sound n (reverse ys) ≡ true
-
-  pub off : (v : Vertex) → xs ≡ ys ++ v ∷ [] → sound n (reverse xs) ≡ true → Off v
-  off v e s = record {
-    low = ltb-true v.task n tasks.0;
-    above = others.0;
-    under = rw length-reverse at (ltb-true (length (reverse ys)) places parts.0);
-    rest = others.1;
-  }
-    where
-      places : ℕ
-      places = room (suc (members v.above.placed.word))
-
-      known : Bool
-      known = all_below n (ranks v.above) && sound n (reverse ys)
-
-      parts : (ltb (length (reverse ys)) places ≡ true) × ((ltb v.task n && known) ≡ true)
-      parts = and_parts (ltb (length (reverse ys)) places) (ltb v.task n && known) (rw (e, turned ys (Some v)) at s)
-
-      tasks : (ltb v.task n ≡ true) × (known ≡ true)
-      tasks = and_parts (ltb v.task n) known parts.1
-
-      others : (all_below n (ranks v.above) ≡ true) × (sound n (reverse ys) ≡ true)
-      others = and_parts (all_below n (ranks v.above)) (sound n (reverse ys)) tasks.1
-
-  pub popped_sound : (r : Option Vertex) → xs ≡ ys ++ option_to_list r → sound n (reverse xs) ≡ true → sound n (reverse ys) ≡ true
-  popped_sound None e s = rw (e, turned ys None) at s
-  popped_sound (Some v) e s = (off v e s).rest
-
 -- ---- a vertex is put on
 
 pub pushed : (zs ys : List Vertex) (v : Vertex) → zs ≡ ys ++ v ∷ [] → map waiting (reverse zs) ≡ waiting v ∷ map waiting (reverse ys)
-pushed zs ys v e = ap (λ xs. map waiting (reverse xs)) e ∙ ap (map waiting) (turned ys (Some v))
+pushed zs ys v e = ap (λ xs. map waiting (reverse xs)) e ∙ ap (map waiting) (reverse-append ys (v ∷ []))
 
 pub pushed_sound : (zs ys : List Vertex) (v : Vertex) → zs ≡ ys ++ v ∷ [] → (n : ℕ) → v.task < n
     → all_below n (ranks v.above) ≡ true → length ys < room (suc (length (ranks v.above))) → sound n (reverse ys) ≡ true
@@ -70,7 +24,7 @@ pushed_sound zs ys v e n low above under s =
     let top = room (suc (members v.above.placed.word)) in
     let roomy : ltb (length (reverse ys)) top ≡ true = lt-ltb _ _ (rw (length-reverse, level_is v.above) under) in
     let known : ltb v.task n ≡ true = lt-ltb _ _ low in
-    rw (e, turned ys (Some v), roomy, known, above) s
+    rw (e, reverse-append ys (v ∷ []), roomy, known, above) s
 
 -- ---- the vertices below a ranking, from the last position down
 

@@ -47,6 +47,7 @@ impl<T: ResponseTest, C: Cost> Problem<'_, T, C> {
     {
         let held = self.tasks.as_slice();
         let mut best = None;
+        // an `if` for each position, since a filter of the range takes a closure and more lines
         for position in (0..held.len()).rev() {
             if unplaced.contains(position) {
                 let above = unplaced.without(position);

@@ -77,6 +77,7 @@ impl Search {
         ensures best { self.new.best ≡ self.old.best }
         ensures active { (state self.new).active ≡ entering self.old.size (ranked above) ++ (state self.old).active }
     {
+        // an `if` for each position, since a filter of the range takes a closure and more lines
         for position in (0..self.size).rev() {
             if !above.placed.contains(position) {
                 let vertex = Vertex {

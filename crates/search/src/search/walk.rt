@@ -59,9 +59,7 @@ impl<'a, T: ResponseTest, C: Cost> Walk<'a, T, C> {
                 self.price = total;
                 self.search.best = here;
             }
-            return;
-        }
-        if let Some(bound) = here.bound(self.problem) {
+        } else if let Some(bound) = here.bound(self.problem) {
             if !cost.no_more(self.price, bound) {
                 self.search.enter(here);
             }

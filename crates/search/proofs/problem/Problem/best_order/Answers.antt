@@ -1,9 +1,7 @@
 use Rattle.std.proofs.Common.{◌+◌, length, sym, ◌∙◌, subst, arith}
 use Rattle.tasks.specs.Lists.{items, plains}
-use Rattle.tasks.specs.Timing.{timings}
-use Rattle.orders.proofs.Firsts.{first_order_is_exact}
-use Rattle.search.specs.Model.{priced, first_over, BestOver}
-use Rattle.search.proofs.Bridges.{monotone_of, held_of}
+use Rattle.search.specs.Model.{first_over, BestOver}
+use Rattle.search.proofs.Bridges.{exact_of}
 use Rattle.search.proofs.Reaches.{not_started, was_started}
 use Rattle.search.proofs.problem.Problem.best_order.Goals as goal
 
@@ -11,17 +9,9 @@ pub returns-then-is_err : goal.returns-then-is_err
 returns-then-is_err g c all =
     let held = plains c.args.self.tasks.now in
     let answer = g.T.ResponseTest.answer c.args.self.test.now in
-    let admitted = g.T.Admission.admitted c.args.self.test.now in
     let prices = g.C.Cost.prices c.args.self.cost.now in
-    let mono = monotone_of admitted answer (g.met.T.ResponseTest.monotone c.args.self.test.now) held (held_of (items c.args.self.tasks.now) admitted all) in
-    (first_order_is_exact _ (length held) (answer (timings held)) (priced prices held) mono).none_if
+    (exact_of (g.T.Admission.admitted c.args.self.test.now) answer (g.met.T.ResponseTest.monotone c.args.self.test.now) prices (items c.args.self.tasks.now) all).none_if
     (not_started (first_over answer prices held) (length held) c.start.result _ _ (sym c.is_err.ensures.value ∙ c.if-is_err.true) c.start.ensures.started).no_first
-
-pub advance-requires : goal.advance-requires
-advance-requires g c =
-    let held = plains c.args.self.tasks.now in
-    let first = first_over (g.T.ResponseTest.answer c.args.self.test.now) (g.C.Cost.prices c.args.self.cost.now) held in
-    sym (was_started first (length held) c.start.result _ _ (sym c.is_err.ensures.value ∙ c.if-is_err.false) c.start.ensures.started).size
 
 pub returns : goal.returns
 returns g c all =

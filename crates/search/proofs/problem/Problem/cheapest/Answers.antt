@@ -5,18 +5,8 @@ use Rattle.orders.specs.First.{cheaper, cheapest}
 use Rattle.search.specs.Model.{priced}
 use Rattle.costs.proofs.Folds.{count_plain}
 use Rattle.search.proofs.Bridges.{asked}
-use Rattle.search.proofs.Picking.{lacking_from, lacking_none, cheapest_skip, cheapest_more, among_either, both_low}
+use Rattle.search.proofs.Picking.{lacking_from, lacking_none, cheapest_skip, cheapest_more, among_either}
 use Rattle.search.proofs.problem.Problem.cheapest.Goals as goal
-
-pub cheaper-requires : goal.cheaper-requires
-cheaper-requires g c =
-    let l = c.args.self.tasks.now in
-    let size = count_plain (items l) c.as_slice-held.result.now c.as_slice-held.ensures.items in
-    let le = c.loop-position.auto.position in
-    record {
-      pick = omega (arith, c.loop-position-test.true);
-      other = both_low (length (plains l)) c.args.unplaced.word c.loop-position.best c.loop-position.invariant.0;
-    }
 
 pub loop-position-init : goal.loop-position-init
 loop-position-init g c =

@@ -1,43 +1,20 @@
-use Rattle.std.proofs.Common.{◌≡◌, ℕ, ◌-◌, ◌<◌, ◌≤◌, ltb, List, length, take, set, replicate, IfSome, Some, sym, refl, ap, ◌∙◌, subst, arith, length-set, rules}
+use Rattle.std.proofs.Common.{◌≡◌, ℕ, ◌-◌, ◌≤◌, ltb, List, length, take, set, replicate, Some, sym, refl, ap, ◌∙◌, subst, arith, length-set}
 use Rattle.std.specs.Option.{option_map}
 use Rattle.tasks.specs.Lists.{items, plains}
 use Rattle.tasks.specs.Sets.{holds}
 use Rattle.tasks.specs.Timing.{timings}
 use Rattle.costs.proofs.Folds.{count_plain}
-use Rattle.orders.specs.Orders.{word, count, unplaced, Order}
+use Rattle.orders.specs.Orders.{word, count, unplaced}
 use Rattle.orders.specs.First.{first_above}
-use Rattle.orders.proofs.Firsts.{first_order_is_exact}
 use Rattle.orders.proofs.Greedy.{first_order_is_greedy}
 use Rattle.orders.proofs.Counts.{Front, front_nothing, front_cons}
-use Rattle.search.specs.Ranks.{ranked, ranks}
+use Rattle.search.specs.Ranks.{ranked}
 use Rattle.search.specs.Model.{priced}
-use Rattle.search.proofs.Bridges.{laws_of, monotone_of, held_of}
+use Rattle.search.proofs.Bridges.{laws_of, exact_of}
 use Rattle.search.proofs.Picking.{unplaced_less}
 use Rattle.search.proofs.Rankings.{zeros, brief_more}
 use Rattle.search.proofs.Lowers.{lower, timed, Filled, lower_none, lower_more, all_left, above_late, above_more, pick_free, word_full, take_full, order_full}
 use Rattle.search.proofs.problem.Problem.first_order.Goals as goal
-
-pub overflow_cast-order : goal.overflow_cast-order
-overflow_cast-order g c =
-    let l = c.args.self.tasks.now in
-    let size = count_plain (items l) c.as_slice-held.result.now c.as_slice-held.ensures.items in
-    let low : c.in_ok-pick.pick.position < 16
-    = omega (arith, c.in_ok-pick.ensures.among.low, c.as_slice-held.ensures.few) in
-    search rules
-
-pub offset_bounds-times-pick : goal.offset_bounds-times-pick
-offset_bounds-times-pick g c =
-    let l = c.args.self.tasks.now in
-    let size = count_plain (items l) c.as_slice-held.result.now c.as_slice-held.ensures.items in
-    let low : c.in_ok-pick.pick.position < 16
-    = omega (arith, c.in_ok-pick.ensures.among.low, c.as_slice-held.ensures.few) in
-    search rules
-
-pub bounds-times-pick : goal.bounds-times-pick
-bounds-times-pick g c =
-    let l = c.args.self.tasks.now in
-    let size = count_plain (items l) c.as_slice-held.result.now c.as_slice-held.ensures.items in
-    omega (arith, c.in_ok-pick.ensures.among.low, c.as_slice-held.ensures.few)
 
 pub loop-level-init : goal.loop-level-init
 loop-level-init g c =
@@ -96,25 +73,19 @@ loop-level-preserved g c =
           ∙ sym (above_more n answer costs k v times pos p t picked free.not_placed (omega (arith, inv.1, among.low, l.few))) ∙ inv.5,
     )
 
-pub returns-in_err-pick : goal.returns-in_err-pick
-returns-in_err-pick g c =
-    let l = c.args.self.tasks.now in
-    let held = plains l in
+pub returns-in_err-pick-clause-value : goal.returns-in_err-pick-clause-value
+returns-in_err-pick-clause-value g c =
+    let held = plains c.args.self.tasks.now in
     let n = length held in
     let answer = g.T.ResponseTest.answer c.args.self.test.now (timings held) in
     let costs = priced (g.C.Cost.prices c.args.self.cost.now) held in
-    let slice = c.as_slice-held in
-    let size = count_plain (items l) slice.result.now slice.ensures.items in
-    let few = slice.ensures.few in
     let inv = c.loop-level.invariant in
     let v = lower n c.loop-level.level c.loop-level.order in
-    record {
-      value = ap (option_map ranked) c.from_residual.ensures
-          ∙ sym (above_late n answer costs c.loop-level.level v c.loop-level.times c.loop-level-test.true (sym (c.in_err-pick.ensures.value v inv.4))) ∙ inv.5;
-      order = subst (λ o. IfSome o (λ a. Order n (ranks a))) (sym c.from_residual.ensures) tt;
-      exact = λ all. first_order_is_exact _ n answer costs (monotone_of (g.T.Admission.admitted c.args.self.test.now) (g.T.ResponseTest.answer c.args.self.test.now) (g.met.T.ResponseTest.monotone c.args.self.test.now) held (held_of (items l) (g.T.Admission.admitted c.args.self.test.now) all));
-      greedy = first_order_is_greedy _ n answer costs (laws_of (g.C.Cost.prices c.args.self.cost.now) (g.met.C.Cost.lawful c.args.self.cost.now) held);
-    }
+    ap (option_map ranked) c.from_residual.ensures
+    ∙ sym (above_late n answer costs c.loop-level.level v c.loop-level.times c.loop-level-test.true (sym (c.in_err-pick.ensures.value v inv.4))) ∙ inv.5
+
+pub returns-in_err-pick-clause-exact : goal.returns-in_err-pick-clause-exact
+returns-in_err-pick-clause-exact g c = exact_of (g.T.Admission.admitted c.args.self.test.now) (g.T.ResponseTest.answer c.args.self.test.now) (g.met.T.ResponseTest.monotone c.args.self.test.now) (g.C.Cost.prices c.args.self.cost.now) (items c.args.self.tasks.now)
 
 pub invariant_of-result : goal.invariant_of-result
 invariant_of-result g c =
@@ -163,6 +134,6 @@ returns g c =
       value = ap (λ v. Some (timed times v)) (is ∙ sym whole)
           ∙ ap (λ k. first_above n answer costs k (timed times (lower n c.loop-level.level order))) (sym end) ∙ inv.5;
       order = order_full n w order few inv.0 bits front;
-      exact = λ all. first_order_is_exact _ n answer costs (monotone_of (g.T.Admission.admitted c.args.self.test.now) (g.T.ResponseTest.answer c.args.self.test.now) (g.met.T.ResponseTest.monotone c.args.self.test.now) held (held_of (items l) (g.T.Admission.admitted c.args.self.test.now) all));
+      exact = exact_of (g.T.Admission.admitted c.args.self.test.now) (g.T.ResponseTest.answer c.args.self.test.now) (g.met.T.ResponseTest.monotone c.args.self.test.now) (g.C.Cost.prices c.args.self.cost.now) (items c.args.self.tasks.now);
       greedy = first_order_is_greedy _ n answer costs (laws_of (g.C.Cost.prices c.args.self.cost.now) (g.met.C.Cost.lawful c.args.self.cost.now) held);
     }

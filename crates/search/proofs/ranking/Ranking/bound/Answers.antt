@@ -18,9 +18,6 @@ loop-position-init g c =
     let laws = g.met.C.Cost.lawful c.args.problem.cost.now in
     (rw (c.none-sum.ensures, laws.covers_none) (omega arith), c.none-sum.ensures ∙ sym (join_none p _), λ i h. absurd (omega arith))
 
-pub add_task-sum-requires : goal.add_task-sum-requires
-add_task-sum-requires g c = omega (arith, c.loop-position.invariant.0, c.as_slice-held.ensures.few)
-
 pub loop-position-preserved : goal.loop-position-preserved
 loop-position-preserved g c =
     let p = g.C.Cost.prices c.args.problem.cost.now in

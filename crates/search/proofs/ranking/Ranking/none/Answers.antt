@@ -7,7 +7,3 @@ use Rattle.search.proofs.ranking.Ranking.none.Goals as goal
 pub invariant_of-result : goal.invariant_of-result
 unfolding members sum_below
 invariant_of-result c = record { once = λ i. omega arith; among = λ i h. refl; marked = refl; brief = zeros }
-
-pub returns : goal.returns
-unfolding members sum_below
-returns c = refl

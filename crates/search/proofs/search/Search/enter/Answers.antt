@@ -57,15 +57,11 @@ loop-position-preserved-then-not-contains c =
           c.loop-position-test.true (omega arith) inv.2 _ _ c.push_reserved.ensures.items refl (sym c.contains.ensures ∙ c.if-not-contains.true),
     )
 
-pub returns : goal.returns
-returns c =
+pub returns-clause-active : goal.returns-clause-active
+returns-clause-active c =
     let s = c.args.self.now in
     let inv = c.loop-position.invariant in
     let none : c.loop-position.position ≡ 0 = omega arith in
-    record {
-      size = inv.0;
-      best = inv.1;
-      active = inv.2 ∙ ap (λ ks. map (λ i. record { ancestors = ranked c.args.above; task = i }) ks ++ map waiting (reverse (vec_items s.active)))
-          (ap (λ k. left c.args.above.placed.word k c.loop-position.self.size) none ∙ left_all c.args.above c.loop-position.self.size
-          ∙ ap (λ n. unplaced n (ranks c.args.above)) inv.0);
-    }
+    inv.2 ∙ ap (λ ks. map (λ i. record { ancestors = ranked c.args.above; task = i }) ks ++ map waiting (reverse (vec_items s.active)))
+    (ap (λ k. left c.args.above.placed.word k c.loop-position.self.size) none ∙ left_all c.args.above c.loop-position.self.size
+    ∙ ap (λ n. unplaced n (ranks c.args.above)) inv.0)

@@ -2,7 +2,7 @@ use Rattle.std.proofs.Common.{◌≡◌, ◌-◌, false, [], length, sym, ap, �
 use Rattle.std.proofs.lemmas.Bool.{not-true, not-false}
 use Rattle.tasks.specs.Lists.{plains}
 use Rattle.tasks.specs.Timing.{timings}
-use Rattle.orders.specs.Search.{examine, steps, stepped, is_none}
+use Rattle.orders.specs.Search.{examine, is_none}
 use Rattle.orders.proofs.Runs.{steps_done, stepped_done, none_is}
 use Rattle.search.specs.Model.{state, priced, examine_over}
 use Rattle.search.proofs.Walks.{steps_next, stepped_next}
@@ -28,8 +28,8 @@ loop-examined-preserved g c =
       stepped = stepped_next n answer costs c.args.count c.loop-examined.examined s _ _ c.loop-examined-test.true next some inv.stepped;
     }
 
-pub returns-then-not-examine : goal.returns-then-not-examine
-returns-then-not-examine g c =
+pub returns-then-not-examine-clause-state : goal.returns-then-not-examine-clause-state
+returns-then-not-examine-clause-state g c =
     let w = c.args.self.now in
     let held = plains w.problem.tasks.now in
     let n = length held in
@@ -41,30 +41,16 @@ returns-then-not-examine g c =
     let none : s.active ≡ [] = none_is s.active (not-false (is_none s.active) (sym got.some ∙ c.if-not-examine.true)) in
     let next : state c.examine.new.self.search.now ≡ examine n answer costs s
     = got.state ∙ ap (λ q. examine_over (g.T.ResponseTest.answer q.test.now) (g.C.Cost.prices q.cost.now) (plains q.tasks.now) s) inv.same_problem in
-    let same : state c.examine.new.self.search.now ≡ s = next ∙ steps_done n answer costs 1 s none in
     let left = c.args.count - c.loop-examined.examined in
-    record {
-      same_search = got.same_search ∙ inv.same_search;
-      same_problem = got.same_problem ∙ inv.same_problem;
-      state = same ∙ sym (steps_done n answer costs left s none) ∙ inv.steps;
-      examined = omega (arith, inv.stepped, stepped_done n answer costs left s none);
-      finished = sym (ap (λ u. is_none u.active) same ∙ ap is_none none);
-    }
+    next ∙ steps_done n answer costs 1 s none ∙ sym (steps_done n answer costs left s none) ∙ inv.steps
 
-pub returns : goal.returns
-returns g c =
+pub returns-then-not-examine-clause-examined : goal.returns-then-not-examine-clause-examined
+returns-then-not-examine-clause-examined g c =
     let w = c.args.self.now in
     let held = plains w.problem.tasks.now in
     let n = length held in
     let answer = g.T.ResponseTest.answer w.problem.test.now (timings held) in
     let costs = priced (g.C.Cost.prices w.problem.cost.now) held in
-    let inv = c.loop-examined.invariant in
     let s = state c.loop-examined.self.search.now in
-    let zero_left : c.args.count - c.loop-examined.examined ≡ 0 = omega arith in
-    record {
-      same_search = inv.same_search;
-      same_problem = inv.same_problem;
-      state = sym (ap (λ k. steps n answer costs k s) zero_left) ∙ inv.steps;
-      examined = omega (arith, inv.stepped, ap (λ k. stepped n answer costs k s) zero_left);
-      finished = c.is_finished.ensures;
-    }
+    let none : s.active ≡ [] = none_is s.active (not-false (is_none s.active) (sym c.examine.ensures.some ∙ c.if-not-examine.true)) in
+    omega (arith, c.loop-examined.invariant.stepped, stepped_done n answer costs (c.args.count - c.loop-examined.examined) s none)
