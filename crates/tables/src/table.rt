@@ -67,8 +67,7 @@ fn read_tasks<T: Admission>(test: &T, records: &[[u8; 12]]) -> Result<TaskList, 
 {
     let mut tasks = TaskList::new();
     let mut floor = 0;
-    for (done, bytes) in records.iter().enumerate() {
-        let n = done as u8 + 1;
+    for (n, bytes) in (1..17).zip(records) {
         let task = read_task(test, bytes, n)?;
         if task.id < floor {
             return Err(Fault::Plan(PlanFault::Order(n)));
