@@ -2,6 +2,7 @@
 ghost use Rattle.std.specs.Prelude.{◌≡◌, ℕ, ◌+◌, ◌<◌, ◌≤◌};
 ghost use Rattle.costs.specs.Prices.{Prices, Lawful};
 
+// A response test has a number and a code too: one trait over both would be one more to implement for each who writes a cost, and lengthen each clause that names the number.
 pub trait Cost {
     type Value: Copy;
 

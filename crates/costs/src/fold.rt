@@ -17,13 +17,14 @@ pub fn add_task<C: Cost>(cost: &C, sum: C::Value, task: &Task, time: u32) -> C::
 }
 
 // The cost of all tasks, each with the time at its position: the least of all costs with times that are nowhere earlier.
+// It stands beside `total_if_timed` because it cannot fail: a caller that has every time would otherwise have to answer for a missing one.
 pub fn total_cost<C: Cost>(cost: &C, tasks: &TaskList, times: &[u32; 16]) -> C::Value
     ensures value { result ≡ total (C.prices cost.now) (plains tasks.now) (λ i. slice_index times.now i) }
     ensures least { LaterNoLess (C.prices cost.now) (plains tasks.now) (λ i. slice_index times.now i) }
 {
     let mut sum = cost.none();
-    for (position, task) in tasks.as_slice().iter().enumerate() {
-        sum = add_task(cost, sum, task, times[position]);
+    for (task, time) in tasks.as_slice().iter().zip(times) {
+        sum = add_task(cost, sum, task, *time);
     }
     sum
 }
@@ -37,8 +38,8 @@ pub fn total_if_timed<C: Cost>(
     ensures { result ≡ total_if_timed (C.prices cost.now) (plains tasks.now) (λ i. slice_index_or times.now i None) }
 {
     let mut sum = cost.none();
-    for (position, task) in tasks.as_slice().iter().enumerate() {
-        sum = add_task(cost, sum, task, times[position]?);
+    for (task, time) in tasks.as_slice().iter().zip(times) {
+        sum = add_task(cost, sum, task, (*time)?);
     }
     Some(sum)
 }

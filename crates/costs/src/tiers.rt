@@ -1,5 +1,5 @@
 // The tiers: a sum for tier 0 and a sum for tier 1; the first decides, and the second breaks ties.
-ghost use Rattle.std.specs.Prelude.{◌+◌, ◌*◌, ◌≤◌};
+ghost use Rattle.std.specs.Prelude.{◌*◌};
 ghost use Rattle.costs.specs.Tiered.{totals, tiered, added, precedes, tier_share};
 ghost use Rattle.std.proofs.Common.{mul-le-mul_left, mul-le-mul, rules};
 
@@ -24,19 +24,7 @@ impl Cost for Tiers {
 
     ghost coded = { Prim.search rules };
 
-    ghost lawful = { λ x.
-        record {
-          comparable = Prim.search rules;
-          transitive = Prim.search rules;
-          associative = Prim.search rules;
-          commutative = Prim.search rules;
-          neutral = Prim.search rules;
-          keeps_no_more = Prim.search rules;
-          later_no_less = λ w t r s h. let p : w * r ≤ w * s = mul-le-mul_left w h in Prim.search rules;
-          covers_none = Prim.search rules;
-          covers_one = λ w t r h k. let p : w * r ≤ 65535 * 4294967295 = mul-le-mul h k in Prim.search rules;
-          covers_both = Prim.search rules;
-        } };
+    ghost lawful = { λ x. Prim.search (rules, mul-le-mul, mul-le-mul_left) };
 
     fn code(&self) -> u8 {
         1

@@ -11,9 +11,6 @@ use tasks::admission::Admission;
 use tasks::set::TaskSet;
 use tasks::task::{Task, Timing};
 
-// The number of this test in a packed table.
-const CODE: u8 = 0;
-
 #[derive(Clone, Copy)]
 pub struct OneJob;
 
@@ -51,7 +48,7 @@ impl ResponseTest for OneJob {
     ghost monotone = { λ x. one_job_monotone };
 
     fn code(&self) -> u8 {
-        CODE
+        0
     }
 
     fn respond(&self, tasks: &[Task], position: usize, above: TaskSet) -> Option<u32> {

@@ -7,6 +7,7 @@ use tasks::admission::Admission;
 use tasks::set::TaskSet;
 use tasks::task::Task;
 
+// A cost has a number and a code too: one trait over both would be one more to implement for each who writes a test, and lengthen each clause that names the number.
 pub trait ResponseTest: Admission {
     ghost number: { ℕ };
 

@@ -9,9 +9,6 @@ use tasks::admission::Admission;
 use tasks::set::TaskSet;
 use tasks::task::{Task, Timing};
 
-// The number of this test in a packed table.
-const CODE: u8 = 1;
-
 #[derive(Clone, Copy)]
 pub struct Window;
 
@@ -35,7 +32,7 @@ impl ResponseTest for Window {
     ghost monotone = { λ x. window_monotone };
 
     fn code(&self) -> u8 {
-        CODE
+        1
     }
 
     fn respond(&self, tasks: &[Task], position: usize, above: TaskSet) -> Option<u32> {

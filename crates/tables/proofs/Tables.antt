@@ -1,6 +1,6 @@
 -- The records of a table, one after another.
 use Rattle.std.proofs.Common.{◌≡◌, ℕ, ◌+◌, ◌<◌, ◌≤◌, Bool, leb, List, [], ◌∷◌, ◌++◌, map, length, get_or, drop, Some, None, Ok, Err, Option, sym, ap, ◌∙◌, append_assoc, arith}
-use Rattle.std.proofs.lemmas.List.{append-nil, at_drop_all, at_drop_more, map_push}
+use Rattle.std.proofs.lemmas.List.{append-nil, at_drop_all, at_drop_more, length-drop, map_push}
 use Rattle.std.proofs.lemmas.Bool.{le-leb, lt-leb}
 use Rattle.tasks.specs.declared.fault.Fault.{Fault}
 use Rattle.tasks.specs.declared.fault.Fault.TheVariants.{Plan}
@@ -31,6 +31,14 @@ module _ (admitted : Timing → Bool) (n floor : ℕ) (bytes : List ℕ) (rest :
   passed h l =
       ap (λ o. first o (unless (leb floor (candidate bytes).id) (Plan (Order n)) others)) h
       ∙ ap (λ t. unless t (Plan (Order n)) others) (le-leb floor (candidate bytes).id l)
+
+-- the next record, where some are left
+pub next_record : (records : List (List ℕ)) (k : ℕ) (x : List ℕ) (rest : List (List ℕ)) → drop k records ≡ x ∷ rest
+    → (k < length records) × (x ≡ get_or records k []) × (rest ≡ drop (k + 1) records)
+next_record records k x rest e =
+    let inside : k < length records = omega (arith, ap length e, length-drop k records) in
+    let same = sym e ∙ at_drop_more (λ ys. ys) records k [] inside in
+    (inside, ap (λ ys. get_or ys 0 []) same, ap (drop 1) same)
 
 -- a turn of the loop over the records: the first `done` are read, and what is left decides the fault
 module _ (admitted : Timing → Bool) (records : List (List ℕ)) (done floor : ℕ) (inside : done < length records)

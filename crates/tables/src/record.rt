@@ -1,5 +1,6 @@
 // One record of the packed table, both ways.
-ghost use Rattle.std.specs.Prelude.{◌≡◌, length, Ok};
+ghost use Rattle.std.specs.Prelude.{◌≡◌, ◌≢◌, length, MatchResult};
+ghost use Rattle.tasks.specs.declared.fault.FileFault.TheVariants.{Spare};
 ghost use Rattle.tables.specs.Bits.{field};
 ghost use Rattle.tables.specs.Tables.{candidate, ReadAs, record_bytes};
 ghost use Rattle.tasks.specs.Tasks.{plain};
@@ -9,41 +10,38 @@ use tasks::admission::Admission;
 use tasks::fault::{Fault, FileFault, TaskFault};
 use tasks::task::{Candidate, Task};
 
-// The numbers of a record, and its spare bit.
-fn read_fields(bytes: &[u8; 12]) -> Result<(u32, Candidate), FileFault>
-    ensures { result ≡ Ok (field bytes.now 7 1, candidate bytes.now) }
+// The numbers of a record, or the fault of its spare bit where that is set.
+fn read_fields(bytes: &[u8; 12], record: u8) -> Result<Candidate, FileFault>
+    ensures { MatchResult result (λ c. (field bytes.now 7 1 ≡ 0) × (c ≡ candidate bytes.now)) (λ e. (field bytes.now 7 1 ≢ 0) × (e ≡ Spare «record»)) }
 {
     let mut bits = BitReader { bytes, at: 0 };
     let id = bits.take(6)?;
     let tier = bits.take(1)?;
     let spare = bits.take(1)?;
+    if spare != 0 {
+        return Err(FileFault::Spare(record));
+    }
     let weight = bits.take(16)?;
     let section = bits.take(12)?;
     let execution = bits.take(20)?;
     let deadline = bits.take(20)?;
     let period = bits.take(20)?;
-    Ok((
-        spare,
-        Candidate {
-            id,
-            tier,
-            weight,
-            section,
-            execution,
-            deadline,
-            period,
-        },
-    ))
+    Ok(Candidate {
+        id,
+        tier,
+        weight,
+        section,
+        execution,
+        deadline,
+        period,
+    })
 }
 
 // The task in a record, or the first rule that the record breaks.
 pub fn read_task<T: Admission>(test: &T, bytes: &[u8; 12], record: u8) -> Result<Task, Fault>
     ensures { ReadAs (T.admitted test.now) «record» bytes.now result }
 {
-    let (spare, candidate) = read_fields(bytes)?;
-    if spare != 0 {
-        return Err(Fault::File(FileFault::Spare(record)));
-    }
+    let candidate = read_fields(bytes, record)?;
     let task = candidate.check(record)?;
     if !test.admits(task.timing()) {
         return Err(Fault::Task(TaskFault::NotAdmitted(record)));

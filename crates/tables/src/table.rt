@@ -67,8 +67,7 @@ fn read_tasks<T: Admission>(test: &T, records: &[[u8; 12]]) -> Result<TaskList, 
 {
     let mut tasks = TaskList::new();
     let mut floor = 0;
-    for (done, bytes) in records.iter().enumerate() {
-        let n = done as u8 + 1;
+    for (n, bytes) in (1..17).zip(records) {
         let task = read_task(test, bytes, n)?;
         if task.id < floor {
             return Err(Fault::Plan(PlanFault::Order(n)));
@@ -105,6 +104,7 @@ pub fn encode(codes: Codes, list: &TaskList, out: &mut [u8]) -> Result<usize, Fa
         return Err(Fault::Plan(PlanFault::Buffer));
     }
     out[0..2].copy_from_slice(&header_bytes(codes, tasks.len() as u8));
+    // Tried with a zip over `as_chunks_mut`: the goal `written` stays open, since that call says nothing of what the slice ends as.
     for (k, task) in tasks.iter().enumerate() {
         out[2 + 12 * k..14 + 12 * k].copy_from_slice(&task_bytes(task));
     }

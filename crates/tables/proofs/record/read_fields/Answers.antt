@@ -1,4 +1,4 @@
-use Rattle.std.proofs.Common.{◌≡◌, Ok, ◌∙◌, arith}
+use Rattle.std.proofs.Common.{◌≡◌, sym, ◌∙◌, arith}
 use Rattle.tables.proofs.Packing.{taken_from}
 use Rattle.tables.proofs.record.read_fields.Goals as goal
 
@@ -33,10 +33,9 @@ returns c =
     let is_section = taken_from 12 section.taken.1 bytes-section at-section in
     let is_execution = taken_from 20 execution.taken.1 bytes-execution at-execution in
     let is_deadline = taken_from 20 deadline.taken.1 bytes-deadline at-deadline in
-    let is_period = taken_from 20 period.taken.1 bytes-period at-period in
-    λ i. Ok (
-      is_spare i,
-      record {
+    let is_period = taken_from 20 period.taken.1 bytes-period at-period in (
+      sym is_spare ∙ c.if-spare-ne0.false,
+      λ i. record {
         id = id.taken.1 i;
         tier = is_tier i;
         weight = is_weight i;
