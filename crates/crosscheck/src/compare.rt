@@ -75,7 +75,7 @@ impl<T: ResponseTest + Drop, C: Cost + Drop> Pair<'_, T, C> {
         let least = if rows.is_empty() {
             None
         } else {
-            try_all(self.rt.alloc(), &problem)?
+            try_all(&problem)
         };
         if reported != least {
             return self.differ("the least cost", &reported, &least);

@@ -107,7 +107,7 @@ impl<T: ResponseTest + Drop, C: Cost + Drop> Pair<'_, T, C> {
         let heap = self.rt.alloc();
         let kind = self.second.kind;
         let count = self.random.between(0, 5);
-        let rows = draw(heap, &mut self.random, kind.test, count)?;
+        let rows = draw(&mut self.random, kind.test, count);
         let mut file = packed(heap, kind, &rows)?;
         if self.random.once_in(2) {
             file = scrambled(heap, &file, &mut self.random)?;

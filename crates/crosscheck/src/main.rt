@@ -60,7 +60,7 @@ impl Session<'_> {
             counts: self.counts,
         };
         for number in 0..self.tables {
-            let rows = draw(heap, &mut pair.random, test, number % 8)?;
+            let rows = draw(&mut pair.random, test, number % 8);
             let file = packed(heap, kind, &rows)?;
             pair.counts.tables = pair.counts.tables.saturating_add(1);
             pair.damage(&file)?;

@@ -35,7 +35,7 @@ pub fn begun_with(heap: Global, bytes: &[u8], size: usize) -> Result<Vec<u8>, Al
     Ok(buffer)
 }
 
-// The name of a command, and its number, if it has one.
+// The name of a command, and its number, if it has one; by hand, since `Command` has no Debug, and one would print all of a file.
 fn named(command: Command) -> (&'static str, u64) {
     match command {
         Command::Load(file) => ("load", file.len() as u64),

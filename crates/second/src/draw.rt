@@ -1,8 +1,7 @@
 // Random tables: small numbers that a scan goes through, loads around the edge of what an order can bear, sections, equal costs,
 // deadlines below and beyond periods, and now and then large numbers or a long busy window.
 use crate::random::Random;
-use crate::table::{Row, Test};
-use std::alloc::{AllocError, Global};
+use crate::table::{Row, Rows, Test};
 
 // How the tasks of one table are drawn.
 #[derive(Clone, Copy)]
@@ -92,7 +91,7 @@ impl Style {
 
 // Two tasks that leave the processor hardly idle, so that busy windows have many jobs: the short one below the long one has about as
 // many as the long one's execution time, on both sides of the limit of 64.
-fn draw_long_window(random: &mut Random) -> [Row; 2] {
+fn draw_long_window(random: &mut Random) -> Rows {
     let long = random.between(61, 67);
     let short = Row {
         id: random.between(0, 31),
@@ -113,7 +112,10 @@ fn draw_long_window(random: &mut Random) -> [Row; 2] {
             .saturating_sub(random.between(0, 2)),
         ..short
     };
-    [short, long]
+    let mut rows = Rows::new();
+    rows.push(short);
+    rows.push(long);
+    rows
 }
 
 // One task.
@@ -124,25 +126,20 @@ pub fn draw_one(random: &mut Random, test: Test) -> Row {
 }
 
 // The tasks of a table for plans with a test.
-pub fn draw(
-    heap: Global,
-    random: &mut Random,
-    test: Test,
-    count: u64,
-) -> Result<Vec<Row>, AllocError> {
+pub fn draw(random: &mut Random, test: Test, count: u64) -> Rows {
     if test == Test::Window && count == 2 && random.once_in(2) {
-        return Vec::from_slice(heap, &draw_long_window(random));
+        return draw_long_window(random);
     }
     let style = if count <= 3 && random.once_in(16) {
         Style::large(random, test)
     } else {
         Style::drawn(random, test, count)
     };
-    let mut rows = Vec::new(heap);
+    let mut rows = Rows::new();
     let mut id = random.between(0, 9);
     for _ in 0..count {
-        rows.push(style.row(random, id.min(63)))?;
+        let _ = rows.try_push(style.row(random, id.min(63)));
         id = id.saturating_add(random.between(1, 8));
     }
-    Ok(rows)
+    rows
 }

@@ -1,8 +1,7 @@
 // Orders of the tasks and what they cost; the cheapest of all orders, by trying each.
 use crate::table::{Kind, Pricing, Row};
 use crate::times::{Times, bit};
-use itertools::Itertools;
-use std::alloc::{AllocError, Global};
+use arrayvec::ArrayVec;
 use std::ops::Add;
 
 // A cost: the total, or that of tier 0, and then that of tier 1. The first decides.
@@ -40,6 +39,9 @@ impl Add for Price {
     }
 }
 
+// The tasks of at most eight levels, level 1 first.
+pub type Path = ArrayVec<usize, 8>;
+
 // The tasks of a table with their times and prices.
 #[derive(Clone, Copy)]
 pub struct Problem<'a> {
@@ -68,14 +70,23 @@ impl Problem<'_> {
     }
 }
 
-// What the cheapest of all orders that pass costs; none where none passes.
-pub fn try_all(heap: Global, problem: &Problem) -> Result<Option<Price>, AllocError> {
-    let count = problem.rows.len();
-    let mut least: Option<Price> = None;
-    for order in (0..count).permutations(heap, count)? {
-        if let Some(price) = problem.path_price(&order?) {
-            least = Some(least.map_or(price, |old| old.min(price)));
-        }
+// The order with a number: its digits to the bases 1, 2, 3, .. say where each task goes in turn.
+fn numbered(count: usize, number: usize) -> Path {
+    let mut path = Path::new();
+    let mut rest = number;
+    for task in 0..count {
+        let place = (rest % (task + 1)).min(path.len());
+        let _ = path.try_insert(place, task);
+        rest /= task + 1;
     }
-    Ok(least)
+    path
+}
+
+// What the cheapest of all orders that pass costs; none where none passes.
+pub fn try_all(problem: &Problem) -> Option<Price> {
+    let count = problem.rows.len();
+    let orders = (1..=count).fold(1, usize::saturating_mul);
+    (0..orders)
+        .filter_map(|number| problem.path_price(&numbered(count, number)))
+        .min()
 }

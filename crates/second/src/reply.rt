@@ -1,4 +1,4 @@
-// What a planner answers, and why it refuses.
+// What a planner answers, and why it refuses. An answer tells a refusal by its number, since each planner has its own names for refusals.
 use std::alloc::AllocError;
 use std::fmt;
 use thiserror::Error;

@@ -1,7 +1,7 @@
 // The second planner as a plan: its tasks, how far its walk is, and what it answers to each command.
 use crate::every_order::Problem;
 use crate::reply::{Failure, Reason, Refusal, Reply};
-use crate::table::{Kind, Row, read};
+use crate::table::{Kind, Row, Rows, read};
 use crate::times::{Times, bit, has, time};
 use crate::walk::{Walk, walk_tree};
 use law::command::Command;
@@ -18,7 +18,7 @@ struct Begun {
 pub struct Shadow {
     heap: Global,
     pub kind: Kind,
-    pub rows: Vec<Row>,
+    pub rows: Rows,
     begun: Option<Begun>,
 }
 
@@ -27,15 +27,15 @@ impl Shadow {
         Shadow {
             heap,
             kind,
-            rows: Vec::new(heap),
+            rows: Rows::new(),
             begun: None,
         }
     }
 
     pub fn obey(&mut self, command: Command, out: &mut [u8]) -> Result<Reply, Failure> {
         match command {
-            Command::Load(file) => self.load(file),
-            Command::Add(candidate) => self.add(candidate.into()),
+            Command::Load(file) => Ok(self.load(file)?),
+            Command::Add(candidate) => Ok(self.add(candidate.into())?),
             Command::Drop(id) => Ok(self.give_up(u64::from(id))?),
             Command::Start => self.start(),
             Command::Advance(count) => Ok(self.advance(u64::from(count))?),
@@ -82,24 +82,24 @@ impl Shadow {
             .ok_or(Reason::UnknownId)
     }
 
-    fn load(&mut self, file: &[u8]) -> Result<Reply, Failure> {
+    fn load(&mut self, file: &[u8]) -> Result<Reply, Refusal> {
         self.at_rest()?;
-        self.rows = read(self.heap, self.kind, file)?;
+        self.rows = read(self.kind, file)?;
         self.begun = None;
         Ok(Reply::Done)
     }
 
-    fn add(&mut self, row: Row) -> Result<Reply, Failure> {
+    fn add(&mut self, row: Row) -> Result<Reply, Reason> {
         self.at_rest()?;
         row.check(self.kind.test)?;
         if self.find(row.id).is_ok() {
-            return Err(Reason::IdTaken.into());
+            return Err(Reason::IdTaken);
         }
-        if self.rows.len() == 16 {
-            return Err(Reason::TooManyTasks.into());
+        if self.rows.is_full() {
+            return Err(Reason::TooManyTasks);
         }
         let place = self.rows.partition_point(|other| other.id < row.id);
-        self.rows.insert(place, row)?;
+        self.rows.insert(place, row);
         self.begun = None;
         Ok(Reply::Done)
     }
@@ -123,7 +123,7 @@ impl Shadow {
             rows: &self.rows,
             times: &times,
         };
-        let found = walk_tree(self.heap, &problem)?.ok_or(Reason::AlwaysLate)?;
+        let found = walk_tree(&problem).ok_or(Reason::AlwaysLate)?;
         let left = found.vertices;
         self.begun = Some(Begun { found, left });
         Ok(Reply::Started)

@@ -1,6 +1,7 @@
 // The second planner's tasks, and its own reading and packing of a table: a record is one number of 96 bits, and fields are taken off
 // its end by division.
-use crate::reply::{Failure, Reason, Refusal};
+use crate::reply::{Reason, Refusal};
+use arrayvec::ArrayVec;
 use std::alloc::{AllocError, Global};
 use tasks::task::Candidate;
 
@@ -72,6 +73,9 @@ impl From<Row> for Candidate {
         }
     }
 }
+
+// The tasks of a table, of which there are at most sixteen.
+pub type Rows = ArrayVec<Row, 16>;
 
 // What a task is tested by: one job, or each job of its busy window.
 #[derive(Clone, Copy, PartialEq, Eq, Debug)]
@@ -146,13 +150,13 @@ fn read_row(test: Test, bytes: &[u8], floor: u64) -> Result<Row, Reason> {
     }
 }
 
-fn read_rows(heap: Global, test: Test, records: &[u8]) -> Result<Vec<Row>, Failure> {
-    let mut rows = Vec::new(heap);
+fn read_rows(test: Test, records: &[u8]) -> Result<Rows, Refusal> {
+    let mut rows = Rows::new();
     let mut floor = 0;
     for (bytes, record) in records.chunks(12).zip(1..) {
         let row = read_row(test, bytes, floor).map_err(|reason| reason.in_record(record))?;
         floor = row.id.saturating_add(1);
-        rows.push(row)?;
+        let _ = rows.try_push(row);
     }
     Ok(rows)
 }
@@ -176,7 +180,7 @@ fn read_header(kind: Kind, mut header: u128) -> Result<u64, Reason> {
 }
 
 // The tasks of a table, or its first fault.
-pub fn read(heap: Global, kind: Kind, file: &[u8]) -> Result<Vec<Row>, Failure> {
+pub fn read(kind: Kind, file: &[u8]) -> Result<Rows, Refusal> {
     let [first, second, records @ ..] = file else {
         return Err(Reason::WrongLength.into());
     };
@@ -184,7 +188,7 @@ pub fn read(heap: Global, kind: Kind, file: &[u8]) -> Result<Vec<Row>, Failure> 
     if records.len() as u64 != count.saturating_mul(12) {
         return Err(Reason::WrongLength.into());
     }
-    read_rows(heap, kind.test, records)
+    read_rows(kind.test, records)
 }
 
 // A digit to a base behind a number.

@@ -2,7 +2,7 @@
 use crate::table::{Row, Test};
 use std::alloc::{AllocError, Global};
 
-// The place value of a task in a set.
+// The place value of a task in a set: a set is a number, as in the questions that a plan is asked.
 pub fn bit(task: usize) -> u64 {
     if task < 64 { 1 << task } else { 0 }
 }

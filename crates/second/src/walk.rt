@@ -1,13 +1,12 @@
 // The second planner's branch and bound. It keeps one path and no stack: the vertices are met in the order of their paths, so the next one is
 // below the path, or beside it, or beside one of its ancestors.
-use crate::every_order::{Price, Problem};
+use crate::every_order::{Path, Price, Problem};
 use crate::times::{bit, every, has};
-use std::alloc::{AllocError, Global};
 
 // The best order, its price, and how many vertices were met.
 #[derive(Drop)]
 pub struct Walk {
-    pub best: Vec<usize>,
+    pub best: Path,
     pub price: Price,
     pub vertices: u64,
 }
@@ -25,19 +24,17 @@ fn lowest(problem: &Problem, unplaced: u64) -> Option<usize> {
 }
 
 // The first order, from the lowest level up; none where no order passes.
-fn first_order(heap: Global, problem: &Problem) -> Result<Option<Vec<usize>>, AllocError> {
+fn first_order(problem: &Problem) -> Option<Path> {
     let count = problem.rows.len();
-    let mut order = Vec::new(heap);
+    let mut order = Path::new();
     let mut unplaced = every(count);
     for _ in 0..count {
-        let Some(task) = lowest(problem, unplaced) else {
-            return Ok(None);
-        };
-        order.push(task)?;
+        let task = lowest(problem, unplaced)?;
+        let _ = order.try_push(task);
         unplaced &= !bit(task);
     }
     order.reverse();
-    Ok(Some(order))
+    Some(order)
 }
 
 // The price of a path and of every other task right below it; none where one is late.
@@ -52,20 +49,20 @@ fn bound(problem: &Problem, path: &[usize], price: Price) -> Option<Price> {
 
 impl Walk {
     // Looks at the vertex of a path, and says whether the vertices below it are to be met.
-    fn meet(&mut self, problem: &Problem, path: &[usize]) -> Result<bool, AllocError> {
+    fn meet(&mut self, problem: &Problem, path: &[usize]) -> bool {
         self.vertices = self.vertices.saturating_add(1);
         let Some(price) = problem.path_price(path) else {
-            return Ok(false);
+            return false;
         };
         if path.len() < problem.rows.len() {
-            return Ok(bound(problem, path, price).is_some_and(|bound| bound < self.price));
+            return bound(problem, path, price).is_some_and(|bound| bound < self.price);
         }
         if price < self.price {
             self.best.clear();
-            self.best.extend_from_slice(path)?;
+            let _ = self.best.try_extend_from_slice(path);
             self.price = price;
         }
-        Ok(false)
+        false
     }
 }
 
@@ -75,7 +72,7 @@ fn beside(path: &[usize], count: usize, from: usize) -> Option<usize> {
 }
 
 // Cuts a path back to where the next path goes on, and gives the next path's last task; none where there is no next path.
-fn next_task(path: &mut Vec<usize>, count: usize, below: bool) -> Option<usize> {
+fn next_task(path: &mut Path, count: usize, below: bool) -> Option<usize> {
     if below && let Some(task) = beside(path, count, 0) {
         return Some(task);
     }
@@ -89,26 +86,22 @@ fn next_task(path: &mut Vec<usize>, count: usize, below: bool) -> Option<usize> 
 }
 
 // The walk over the tasks of a table; none where no order passes.
-pub fn walk_tree(heap: Global, problem: &Problem) -> Result<Option<Walk>, AllocError> {
-    let Some(best) = first_order(heap, problem)? else {
-        return Ok(None);
-    };
-    let Some(price) = problem.path_price(&best) else {
-        return Ok(None);
-    };
+pub fn walk_tree(problem: &Problem) -> Option<Walk> {
+    let best = first_order(problem)?;
+    let price = problem.path_price(&best)?;
     let mut found = Walk {
         best,
         price,
         vertices: 0,
     };
-    let mut path = Vec::new(heap);
+    let mut path = Path::new();
     let mut below = true;
     for _ in 0..MOST_VERTICES {
         let Some(task) = next_task(&mut path, problem.rows.len(), below) else {
             break;
         };
-        path.push(task)?;
-        below = found.meet(problem, &path)?;
+        let _ = path.try_push(task);
+        below = found.meet(problem, &path);
     }
-    Ok(Some(found))
+    Some(found)
 }
