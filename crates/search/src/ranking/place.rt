@@ -33,10 +33,11 @@ impl Ranking {
     {
         let mut order = self.order;
         let mut times = self.times;
+        let position = usize::from(task);
         order[self.level()] = task;
-        times[task as usize] = time;
+        times[position] = time;
         Ranking {
-            placed: self.placed.with(task as usize),
+            placed: self.placed.with(position),
             order,
             times,
         }

@@ -78,7 +78,7 @@ impl<'a, T: ResponseTest, C: Cost> Walk<'a, T, C> {
         };
         let Problem { test, tasks, .. } = self.problem;
         let held = tasks.as_slice();
-        let position = vertex.task as usize;
+        let position = usize::from(vertex.task);
         if let Some(time) = test.respond(held, position, vertex.above.placed) {
             self.settle(vertex.above.with(vertex.task, time));
         }
