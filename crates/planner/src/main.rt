@@ -101,9 +101,27 @@ fn main(rt: HostRuntime) -> anyhow::Result<()> {
     rt.stdin().take(LONGEST_INPUT).read_to_end(&mut file)?;
     // The codes stay numbers: tests and costs of others have codes too, so no enum of this program lists them.
     match codes(&file) {
-        Some(Codes { test: 0, cost: 1, .. }) => plan_table(&rt, OneJob, Tiers, &file),
-        Some(Codes { test: 1, cost: 0, .. }) => plan_table(&rt, Window, Sum, &file),
-        Some(Codes { test: 1, cost: 1, .. }) => plan_table(&rt, Window, Tiers, &file),
+        Some(
+            Codes {
+                test: 0,
+                cost: 1,
+                ..
+            },
+        ) => plan_table(&rt, OneJob, Tiers, &file),
+        Some(
+            Codes {
+                test: 1,
+                cost: 0,
+                ..
+            },
+        ) => plan_table(&rt, Window, Sum, &file),
+        Some(
+            Codes {
+                test: 1,
+                cost: 1,
+                ..
+            },
+        ) => plan_table(&rt, Window, Tiers, &file),
         // also where a code is missing, or is that of no kind here
         _ => plan_table(&rt, OneJob, Sum, &file),
     }

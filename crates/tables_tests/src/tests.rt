@@ -54,7 +54,10 @@ fn the_rules_of_a_task(rt: HostRuntime) {
     assert!(rt; candidate(1, 2, 3, 4).check(0).is_ok());
     assert_eq!(rt; refusal(candidate(64, 0, 1, 4).check(0)), Some((5, 0)));
     assert_eq!(rt; refusal(candidate(1, 0, 0, 4).check(0)), Some((5, 0)));
-    assert_eq!(rt; refusal(candidate(1, 0, 1, 1_048_576).check(0)), Some((5, 0)));
+    assert_eq!(rt;
+        refusal(candidate(1, 0, 1, 1_048_576).check(0)),
+        Some((5, 0))
+    );
 }
 
 #[test]
