@@ -2,7 +2,8 @@
 ghost use Rattle.std.specs.Prelude.{◌≡◌, ℕ, ◌+◌, ◌<◌, ◌≤◌};
 ghost use Rattle.costs.specs.Prices.{Prices, Lawful};
 
-// A response test has a number and a code too: one trait over both would be one more to implement for each who writes a cost, and lengthen each clause that names the number.
+// A response test has a number and a code too: one trait over both would be one more to implement for each who writes a cost, and lengthen
+// each clause that names the number.
 pub trait Cost {
     type Value: Copy;
 
@@ -10,6 +11,7 @@ pub trait Cost {
 
     ghost prices: { Self → Prices Self.Value };
 
+    // The cost's number in a packed table. An enum would close the set of costs, and a constant of the trait would need this method beside it.
     fn code(&self) -> u8
         ensures { result ≡ number };
 
@@ -17,7 +19,7 @@ pub trait Cost {
     fn none(&self) -> Self::Value
         ensures { result ≡ (prices self.now).nothing };
 
-    // The cost of one task.
+    // The cost of one task. The tier is a number, as in a task: an enum would ask more of callers.
     fn one(&self, weight: u16, tier: u8, response: u32) -> Self::Value
         ensures { result ≡ (prices self.now).single weight tier response };
 

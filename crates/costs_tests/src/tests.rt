@@ -9,6 +9,7 @@ use std::test::Fail;
 use tasks::list::TaskList;
 use tasks::task::Candidate;
 
+// The tests of each crate vary other fields, so each has a function of its own.
 fn candidate(id: u32, tier: u32, weight: u32) -> Candidate {
     Candidate {
         id,

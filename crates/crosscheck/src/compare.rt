@@ -18,6 +18,7 @@ fn ids_of(rows: &[Row], places: u64) -> u64 {
         .fold(0, |ids, (_, row)| ids | bit(row.id as usize))
 }
 
+// As the second planner narrows numbers for a candidate, to another width: one function for both would take the largest from its caller.
 fn short_id(id: u64) -> u8 {
     u8::try_from(id).unwrap_or(u8::MAX)
 }

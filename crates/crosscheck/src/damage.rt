@@ -45,6 +45,7 @@ impl<T: ResponseTest + Drop, C: Cost + Drop> Pair<'_, T, C> {
     }
 }
 
+// This and `scrambled` copy the file themselves: the copy is one line, and the change as a closure would take more.
 fn flipped(heap: Global, file: &[u8], place: usize, mask: u8) -> Result<Vec<u8>, AllocError> {
     let mut bad = Vec::from_slice(heap, file)?;
     if let Some(byte) = bad.get_mut(place) {

@@ -3,7 +3,7 @@ use crate::pair::{Pair, UNTOUCHED, begun_with};
 use crate::reply::of_fault;
 use costs::cost::Cost;
 use response::test::ResponseTest;
-use second::reply::{Failure, Reply};
+use second::reply::Reply;
 
 impl<T: ResponseTest + Drop, C: Cost + Drop> Pair<'_, T, C> {
     // Compares the listings in a buffer of some size.
@@ -23,8 +23,7 @@ impl<T: ResponseTest + Drop, C: Cost + Drop> Pair<'_, T, C> {
                 },
                 text,
             ),
-            Err(Failure::Refused(refusal)) => (refusal.into(), String::new(heap)),
-            Err(Failure::Memory(error)) => return Err(error.into()),
+            Err(failure) => (failure.refusal()?.into(), String::new(heap)),
         };
         let expected = begun_with(heap, text.as_bytes(), size)?;
         if first != second || buffer != expected {

@@ -6,13 +6,13 @@ use law::command::Command;
 use plan::plan::Plan;
 use response::test::ResponseTest;
 use second::random::Random;
-use second::reply::{Failure, Reply};
+use second::reply::Reply;
 use second::shadow::Shadow;
 use second::table::packed;
 use second::times::Times;
 use std::alloc::{AllocError, Global};
 use std::fmt::Debug;
-use text::refusal_line;
+use text::{REFUSAL_LEN, refusal_line};
 
 // What stands in a buffer before it is lent, to see what stays.
 pub const UNTOUCHED: u8 = 0xA5;
@@ -35,7 +35,8 @@ pub fn begun_with(heap: Global, bytes: &[u8], size: usize) -> Result<Vec<u8>, Al
     Ok(buffer)
 }
 
-// The name of a command, and its number, if it has one; by hand, since `Command` has no Debug, and one would print all of a file.
+// The name of a command, and its number, if it has one; by hand, since its derived Debug would print all of a file, which is printed
+// beside it.
 fn named(command: Command) -> (&'static str, u64) {
     match command {
         Command::Load(file) => ("load", file.len() as u64),
@@ -59,11 +60,12 @@ pub struct Pair<'a, T: ResponseTest + Drop, C: Cost + Drop> {
 }
 
 impl<T: ResponseTest + Drop, C: Cost + Drop> Pair<'_, T, C> {
+    // The planners write answers, refusals and tables in different ways, so each has a function: a trait over both would hold the same lines.
     fn first_sight(&mut self, command: Command, size: usize) -> Result<Sight, AllocError> {
         let heap = self.rt.alloc();
         let mut buffer = vec![in heap; UNTOUCHED; size]?;
         let answer = self.first.apply(command, &mut buffer);
-        let mut line = vec![in heap; UNTOUCHED; 32]?;
+        let mut line = vec![in heap; UNTOUCHED; REFUSAL_LEN]?;
         if let Err(fault) = answer {
             let _ = refusal_line(fault, &mut line);
         }
@@ -84,15 +86,15 @@ impl<T: ResponseTest + Drop, C: Cost + Drop> Pair<'_, T, C> {
         let mut line = String::new(heap);
         let reply = match self.second.obey(command, &mut buffer) {
             Ok(reply) => reply,
-            Err(Failure::Refused(refusal)) => {
+            Err(failure) => {
+                let refusal = failure.refusal()?;
                 writeln!(line, "{refusal}")?;
                 refusal.into()
             }
-            Err(Failure::Memory(error)) => return Err(error),
         };
         Ok(Sight {
             reply,
-            line: begun_with(heap, line.as_bytes(), 32)?,
+            line: begun_with(heap, line.as_bytes(), REFUSAL_LEN)?,
             buffer,
             table: begun_with(heap, &self.table()?, 200)?,
             bound: self.second.vertex_bound(),

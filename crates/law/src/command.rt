@@ -12,6 +12,8 @@ pub enum Command<'a> {
     Report,
 }
 
+// A count is meant whether the search is finished or not, so the flag stands beside it. The fields stand here and not in a struct, since the
+// structs of the calls are those of the search and the plan, which this crate does not use.
 #[derive(Clone, Copy, PartialEq, Eq, Debug)]
 pub enum Outcome {
     Done,

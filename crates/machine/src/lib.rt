@@ -1,4 +1,5 @@
-//! The tick machine, and that no job of an order outruns its response time on it.
+//! The tick machine, and that no job of an order outruns its response time on it. Each function here holds one theorem in its contract, under the
+//! name of the theorem.
 #![tactic(auto)]
 
 ghost use Rattle.response.specs.Tests.{one_job, one_job_admits, window, window_admits};

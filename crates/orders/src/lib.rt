@@ -1,4 +1,5 @@
-// What holds of the first order and of the search by branch and bound, for every test and cost with the laws.
+// What holds of the first order and of the search by branch and bound, for every test and cost with the laws. Each function holds one theorem in its
+// contract, under the name of the theorem.
 #![tactic(auto)]
 
 ghost use Rattle.orders.specs.Theorems.{FirstOrderIsExact, FirstOrderIsGreedy, SearchEnds, SearchIsOptimal, VerticesByLevel, StackStaysSmall, OnlyOwnTaskLate};

@@ -12,6 +12,8 @@ use search::ranking::Ranking;
 use tasks::task::Task;
 use text::Level;
 
+// Past the end this and `time_at` answer 0, as their definitions do: an Option would be turned back into that 0.
+
 // The id of the task at a position; 0 past the end.
 fn id_at(tasks: &[Task], position: usize) -> u8
     ensures { result ≡ (slice_index_or (map plain tasks.now) position no_task).id }

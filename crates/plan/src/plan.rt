@@ -19,7 +19,8 @@ mod make;
 mod report;
 mod seek;
 
-// The tasks ascend by id. Nothing here depends on what the test or the cost answers.
+// The tasks ascend by id. Nothing here depends on what the test or the cost answers. The search stands beside the state of an open plan too,
+// since its memory is reserved once.
 #[derive(Drop)]
 pub struct Plan<T, C> {
     test: T,

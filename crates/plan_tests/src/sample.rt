@@ -7,6 +7,7 @@ use std::test::Fail;
 use tasks::fault::Fault;
 use tasks::task::Candidate;
 
+// The same bytes stand in the tests of the tables: one crate for both would be one more to prove.
 pub const SAMPLE: [u8; 38] = [
     0x10, 0x03, 0x04, 0x00, 0x01, 0x00, 0x00, 0x00, 0x01, 0x00, 0x00, 0x40, 0x00, 0x04, 0x08, 0x00,
     0x01, 0x00, 0x00, 0x00, 0x02, 0x00, 0x00, 0x60, 0x00, 0x06, 0x0c, 0x00, 0x0a, 0x00, 0x00, 0x00,
@@ -20,7 +21,7 @@ pub fn new_plan(heap: Global) -> Result<Plan<OneJob, Sum>, Fail> {
     Ok(Plan::new(heap, OneJob, Sum)?)
 }
 
-// With its period for its deadline.
+// With its period for its deadline. The tests of each crate vary other fields, so each has a function of its own.
 pub fn candidate(id: u32, execution: u32, period: u32) -> Candidate {
     Candidate {
         id,

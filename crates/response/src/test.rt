@@ -7,13 +7,15 @@ use tasks::admission::Admission;
 use tasks::set::TaskSet;
 use tasks::task::Task;
 
-// A cost has a number and a code too: one trait over both would be one more to implement for each who writes a test, and lengthen each clause that names the number.
+// A cost has a number and a code too: one trait over both would be one more to implement for each who writes a test, and lengthen each
+// clause that names the number.
 pub trait ResponseTest: Admission {
     ghost number: { ℕ };
 
     ghost answer: { Self → Answers };
 
-    // The test's number in a packed table. A constant of the trait would need this method, which callers ask, beside it.
+    // The test's number in a packed table. A constant of the trait would need this method, which callers ask, beside it, and an
+    // enum would close the set of tests.
     fn code(&self) -> u8
         ensures { result ≡ number };
 

@@ -7,6 +7,7 @@ use tasks::admission::Admission;
 use tasks::set::TaskSet;
 use tasks::task::{Candidate, Task, Timing};
 
+// The tests of each crate vary other fields, so each has a function of its own.
 fn task(id: u32, execution: u32, deadline: u32, period: u32, section: u32) -> Result<Task, Fail> {
     let candidate = Candidate {
         id,

@@ -71,6 +71,7 @@ impl<T: ResponseTest, C: Cost> Problem<'_, T, C> {
         let mut unplaced = placed;
         let mut order = [0; 16];
         let mut times = [0; 16];
+        // by level, since nothing is known of what a reversed `iter_mut` of the order wrote
         for level in (0..held.len()).rev() {
             let pick = self.cheapest(unplaced)?;
             order[level] = pick.position as u8;

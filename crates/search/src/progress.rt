@@ -1,4 +1,4 @@
-// How far a call of a search got.
+// How far a call of a search got. A count is meant whether it is finished or not, so neither Option nor Result says both.
 #[derive(Clone, Copy, PartialEq, Eq, Debug)]
 pub struct Progress<N> {
     // how many vertices were examined

@@ -10,7 +10,7 @@ use std::test::Fail;
 use tasks::list::TaskList;
 use tasks::task::Candidate;
 
-// One task more, with its period for its deadline.
+// One task more, with its period for its deadline. The tests of each crate vary other fields, so each has a function of its own.
 fn add(
     tasks: &mut TaskList,
     id: u32,

@@ -41,7 +41,7 @@ impl Style {
         }
     }
 
-    // Few tasks with long times.
+    // Few tasks with long times: other numbers in other places than above, so only the struct is common.
     fn large(random: &mut Random, test: Test) -> Style {
         Style {
             test,

@@ -4,7 +4,7 @@ use crate::times::{Times, bit};
 use arrayvec::ArrayVec;
 use std::ops::Add;
 
-// A cost: the total, or that of tier 0, and then that of tier 1. The first decides.
+// A cost: the total, or that of tier 0, and then that of tier 1. The first decides. A type of this planner's own, since it is independent of the first.
 #[derive(Clone, Copy, PartialEq, Eq, PartialOrd, Ord, Debug, Default)]
 pub struct Price {
     pub first: u64,
@@ -54,12 +54,13 @@ impl Problem<'_> {
     // The price of a task below a set of tasks; none where it is late.
     pub fn price(&self, task: usize, above: u64) -> Option<Price> {
         let time = self.times.get(task, above)?;
-        let row = self.rows.get(task).copied().unwrap_or_default();
-        Some(Price::of(self.kind.pricing, row, time))
+        let row = self.rows.get(task)?;
+        Some(Price::of(self.kind.pricing, *row, time))
     }
 
     // The price of the tasks of a path; none where one is late.
     pub fn path_price(&self, path: &[usize]) -> Option<Price> {
+        // a loop, since a `try_fold` over the total and the set at once is no plainer
         let mut total = Price::default();
         let mut above = 0;
         for task in path {

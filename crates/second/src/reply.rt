@@ -7,10 +7,12 @@ use thiserror::Error;
 pub enum Reply {
     Done,
     Started,
+    // a count is meant whether the walk is finished or not; the types are this planner's own
     Advanced { count: u64, finished: bool },
     Reported { bytes: u64, first: u64, second: u64 },
     Answered(Option<u64>),
     Listed { bytes: u64 },
+    // an arm and no Err, since refusals too are compared and printed as answers
     Refused { number: u64, record: u64 },
 }
 
@@ -55,7 +57,7 @@ impl Reason {
     }
 }
 
-// A refusal, and the record that it names, or 0.
+// A refusal, and the record that it names, or 0, the number that the line of a refusal then shows.
 #[derive(Clone, Copy, PartialEq, Eq, Debug)]
 pub struct Refusal {
     reason: Reason,
@@ -92,6 +94,16 @@ pub enum Failure {
     Refused(#[from] Refusal),
     #[error(transparent)]
     Memory(#[from(alloc)] AllocError),
+}
+
+impl Failure {
+    // The refusal, or the want of memory.
+    pub fn refusal(self) -> Result<Refusal, AllocError> {
+        match self {
+            Failure::Refused(refusal) => Ok(refusal),
+            Failure::Memory(error) => Err(error),
+        }
+    }
 }
 
 impl From<Reason> for Failure {

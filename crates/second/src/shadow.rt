@@ -147,7 +147,8 @@ impl Shadow {
         Ok(Reply::Done)
     }
 
-    // The task of a level, and its time below the tasks of a set.
+    // The task of a level, and its time below the tasks of a set. The tasks of a found order are held and in time, so neither default is ever
+    // shown.
     fn level(&self, task: usize, above: u64) -> (u64, u64) {
         let id = self.rows.get(task).copied().unwrap_or_default().id;
         let response = time(self.kind.test, &self.rows, task, above).unwrap_or(0);
@@ -161,6 +162,7 @@ impl Shadow {
         if out.len() < size {
             return Err(Reason::BufferTooSmall);
         }
+        // the set above grows with the loop, here and wherever an order is gone through: an iterator that hands it out would need a type of its own
         let mut above = 0;
         for (task, place) in found.best.iter().zip(out.chunks_exact_mut(4)) {
             let (id, response) = self.level(*task, above);

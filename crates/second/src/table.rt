@@ -5,7 +5,7 @@ use arrayvec::ArrayVec;
 use std::alloc::{AllocError, Global};
 use tasks::task::Candidate;
 
-// The numbers of a task.
+// The numbers of a task, of any size until they are checked, and beside the first planner's types, since this planner is independent of it.
 #[derive(Clone, Copy, Debug, Default)]
 pub struct Row {
     pub id: u64,

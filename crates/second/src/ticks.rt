@@ -28,7 +28,8 @@ pub struct Lane {
     pub longest: u64,
 }
 
-// Releases and needs of jobs: all at once and as much as can be, or random.
+// Releases and needs of jobs: all at once and as much as can be, or random. An enum of two kinds, since a trait with a type for each would
+// say the same in more lines.
 #[derive(Drop)]
 pub enum Workload {
     Worst,
@@ -90,6 +91,7 @@ impl Machine {
     ) -> Result<Machine, AllocError> {
         let mut lanes = Vec::new(heap);
         for (task, time) in order.iter().zip(times) {
+            // the tasks of an order are held, so the default row is never taken
             let row = problem.rows.get(*task).copied().unwrap_or_default();
             lanes.push(Lane {
                 row,

@@ -85,7 +85,7 @@ impl Level<'_> {
 
 // The time of a task with the tasks of a set above it; none where it is late.
 pub fn time(test: Test, rows: &[Row], task: usize, above: u64) -> Option<u64> {
-    let row = rows.get(task).copied().unwrap_or_default();
+    let row = *rows.get(task)?;
     let level = Level {
         rows,
         above,

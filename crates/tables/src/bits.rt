@@ -32,6 +32,7 @@ impl<'a> BitReader<'a> {
         if end > 8 * self.bytes.len() {
             return Err(FileFault::Length);
         }
+        // a loop, whose invariant says what the bits so far make: a fold would need that as a contract of its closure
         let mut value = 0;
         for place in self.at..end {
             value = 2 * value + bit(self.bytes, place);

@@ -7,6 +7,7 @@ use crate::bits::{BitReader, BitWriter};
 use tasks::fault::FileFault;
 use tasks::list::Codes;
 
+// The fields as they stand in a file, all of them numbers: the format is judged first, then the spare bits, then the codes.
 #[derive(Clone, Copy)]
 pub struct Header {
     pub format: u32,
@@ -16,6 +17,7 @@ pub struct Header {
     pub count: u32,
 }
 
+// Field after field, both ways: an array of widths would part each width from its field.
 fn read_header(bytes: [u8; 2]) -> Result<Header, FileFault>
     ensures { result ≡ Ok (header_in bytes) }
 {

@@ -10,7 +10,8 @@ use tasks::admission::Admission;
 use tasks::fault::{Fault, FileFault, TaskFault};
 use tasks::task::{Candidate, Task};
 
-// The numbers of a record, or the fault of its spare bit where that is set.
+// The numbers of a record, or the fault of its spare bit where that is set. Field after field, both ways: an array of widths would part
+// each width from its field.
 fn read_fields(bytes: &[u8; 12], record: u8) -> Result<Candidate, FileFault>
     ensures { MatchResult result (λ c. (field bytes.now 7 1 ≡ 0) × (c ≡ candidate bytes.now)) (λ e. (field bytes.now 7 1 ≢ 0) × (e ≡ Spare «record»)) }
 {

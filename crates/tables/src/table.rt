@@ -100,6 +100,7 @@ pub fn encode(codes: Codes, list: &TaskList, out: &mut [u8]) -> Result<usize, Fa
 {
     let tasks = list.as_slice();
     let size = 2 + 12 * tasks.len();
+    // Refused here, and not as the texts are: those are made whole and then copied, while a table is written record by record.
     if out.len() < size {
         return Err(Fault::Plan(PlanFault::Buffer));
     }

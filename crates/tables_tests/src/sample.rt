@@ -19,13 +19,14 @@ impl Admission for AtMostPeriod {
 
 pub const CODES: Codes = Codes { test: 0, cost: 0 };
 
+// The same bytes stand in the tests of the plan: one crate for both would be one more to prove.
 pub const SAMPLE: [u8; 38] = [
     0x10, 0x03, 0x04, 0x00, 0x01, 0x00, 0x00, 0x00, 0x01, 0x00, 0x00, 0x40, 0x00, 0x04, 0x08, 0x00,
     0x01, 0x00, 0x00, 0x00, 0x02, 0x00, 0x00, 0x60, 0x00, 0x06, 0x0c, 0x00, 0x0a, 0x00, 0x00, 0x00,
     0x03, 0x00, 0x00, 0xc0, 0x00, 0x0c,
 ];
 
-// Weight 1, tier 0, and the deadline equal to the period.
+// Weight 1, tier 0, and the deadline equal to the period. The tests of each crate vary other fields, so each has a function of its own.
 pub fn candidate(id: u32, section: u32, execution: u32, time: u32) -> Candidate {
     Candidate {
         id,

@@ -3,6 +3,8 @@ ghost use Rattle.std.specs.Prelude.{◌≡◌};
 ghost use Rattle.tasks.specs.Faults.{number_of, layer_of, record_of};
 ghost use Rattle.tasks.specs.declared.fault.Fault.TheVariants.{File, Task, Plan};
 
+// Where a fault names no record, the number is 0, as the line of a refusal shows it: an Option would be turned back into that 0.
+
 // A fault of the file; a spare bit names its record, and 0 for the header.
 #[derive(Clone, Copy, Debug)]
 pub enum FileFault {
@@ -109,6 +111,7 @@ impl Fault {
     }
 }
 
+// By hand, since the derive that writes a From asks for a text of each fault.
 impl From<FileFault> for Fault {
     ghost from_gives = { λ e f. f ≡ File e };
 

@@ -11,7 +11,7 @@ pub struct TaskList {
     ghost few: { length tasks.items ≤ 16 },
 }
 
-// The codes of a response test and of a cost.
+// The codes of a response test and of a cost. Numbers, since an enum would close the set of tests and costs.
 #[derive(Clone, Copy)]
 pub struct Codes {
     pub test: u8,

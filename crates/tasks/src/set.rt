@@ -29,7 +29,7 @@ impl TaskSet {
         position < 64 && (self.word >> position) & 1 == 1
     }
 
-    // One position more; the same set where it is past 63.
+    // One position more; the same set where it is past 63. This and `without` differ in an operator, which one function for both would hide.
     pub fn with(self, position: usize) -> TaskSet
         ensures added { position < 64 → (j : ℕ) → holds result.word j ≡ (j == position || holds self.word j) }
         ensures beyond { 64 ≤ position → result ≡ self }

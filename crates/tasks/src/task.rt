@@ -1,6 +1,7 @@
 // A task, the candidate that it is checked from, and the timing that a response test reads.
 ghost use Rattle.std.specs.Prelude.{◌<◌, ◌≤◌};
 
+// The tier is a number, as records and clauses have it: an enum would be turned back into it.
 #[derive(Clone, Copy)]
 pub struct Task {
     pub id: u8,
@@ -21,7 +22,7 @@ pub struct Task {
     ghost preempted: { section < execution },
 }
 
-// The numbers of a task before they are checked.
+// The numbers of a task before they are checked: the same fields, wide enough for whatever a caller gives.
 #[derive(Clone, Copy, Debug)]
 pub struct Candidate {
     pub id: u32,

@@ -1,4 +1,4 @@
-// The seven commands as calls.
+// The seven commands as calls. Those that answer nothing are alike but for the command; each is a call of its own for its callers.
 ghost use Rattle.law.specs.declared.command.Command.TheVariants.{Load, Add, Drop, Start, Advance, Stop, Report};
 ghost use Rattle.plan.specs.Answers.{done, progress, reported, Called, CalledWith};
 ghost use Rattle.plan.specs.Model.{means};

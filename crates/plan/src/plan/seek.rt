@@ -53,6 +53,7 @@ impl<T: ResponseTest + Drop, C: Cost + Drop> Plan<T, C> {
         ensures { Served (means T.Admission T.ResponseTest.own C.Cost self.old) (Advance count) self.old self.new (told advanced result) }
     {
         check_steps(count)?;
+        // put together here and in `begin_search`, since a method would borrow the whole plan while its search is borrowed
         let problem = Problem {
             test: &self.test,
             cost: &self.cost,

@@ -22,6 +22,7 @@ impl Ranking {
         let Problem { test, cost, tasks } = problem;
         let held = tasks.as_slice();
         let mut sum = cost.none();
+        // by position, which the set and the test are asked with, so a zip with the times is no plainer
         for (position, task) in held.iter().enumerate() {
             let time = if self.placed.contains(position) {
                 self.times[position]

@@ -66,7 +66,7 @@ impl<'a, T: ResponseTest, C: Cost> Walk<'a, T, C> {
         }
     }
 
-    // Examines the next vertex, if there is one.
+    // Examines the next vertex, and says whether there was one.
     fn examine(&mut self) -> bool
         ensures same_search { self.new.search.ghost_name ≡ self.old.search.ghost_name }
         ensures same_problem { self.new.problem ≡ self.old.problem }
