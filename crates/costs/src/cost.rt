@@ -19,7 +19,7 @@ pub trait Cost {
     fn none(&self) -> Self::Value
         ensures { result ≡ (prices self.now).nothing };
 
-    // The cost of one task. The tier is a number, as in a task: an enum would ask more of callers.
+    // The cost of one task, which may depend on these three numbers alone. The tier is a number, as in a task: an enum would ask more of callers.
     fn one(&self, weight: u16, tier: u8, response: u32) -> Self::Value
         ensures { result ≡ (prices self.now).single weight tier response };
 
@@ -31,7 +31,7 @@ pub trait Cost {
     fn no_more(&self, a: Self::Value, b: Self::Value) -> bool
         ensures { result ≡ (prices self.now).no_more a b };
 
-    // The two numbers to show.
+    // The two numbers to show, as a pair: the definitions say it so, and clauses would turn a struct of both into it.
     fn shown(&self, a: Self::Value) -> (u64, u64)
         ensures { result ≡ (prices self.now).numbers a };
 

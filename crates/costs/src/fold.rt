@@ -16,6 +16,9 @@ pub fn add_task<C: Cost>(cost: &C, sum: C::Value, task: &Task, time: u32) -> C::
     cost.join(sum, cost.one(task.weight, task.tier, time))
 }
 
+// Sixteen times, as a ranking holds them, since a slice could end before the tasks. Cost and tasks are two parameters: a struct of both would be
+// made for two calls.
+
 // The cost of all tasks, each with the time at its position: the least of all costs with times that are nowhere earlier.
 // It stands beside `total_if_timed` because it cannot fail: a caller that has every time would otherwise have to answer for a missing one.
 pub fn total_cost<C: Cost>(cost: &C, tasks: &TaskList, times: &[u32; 16]) -> C::Value

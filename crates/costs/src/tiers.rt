@@ -30,6 +30,7 @@ impl Cost for Tiers {
         1
     }
 
+    // Both zeros stand here, as in the definition of the cost of no task: a derived Default would be one place more to look at.
     fn none(&self) -> Totals {
         Totals {
             first: 0,

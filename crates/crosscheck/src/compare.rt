@@ -89,7 +89,7 @@ impl<T: ResponseTest + Drop, C: Cost + Drop> Pair<'_, T, C> {
     }
 }
 
-// The cost that was reported, if an order was.
+// The cost that was reported, if an order was; a function here, since only this comparison reads a cost off a reply.
 fn price_of(reply: Reply) -> Option<Price> {
     match reply {
         Reply::Reported { first, second, .. } => Some(Price { first, second }),

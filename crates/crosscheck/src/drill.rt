@@ -1,4 +1,5 @@
-// Random commands, many of them refused.
+// Random commands, many of them refused. Drawn numbers choose by a `match`, since its patterns show the odds, and each arm sets or makes
+// another thing.
 use crate::damage::scrambled;
 use crate::pair::Pair;
 use costs::cost::Cost;

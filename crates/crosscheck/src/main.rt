@@ -74,7 +74,7 @@ impl Session<'_> {
     }
 }
 
-// The number of tables that an argument asks for.
+// The number of tables that an argument asks for; by a match, since a `map_or` would hold the `?` in a closure.
 fn wanted(rt: &HostRuntime) -> anyhow::Result<u64> {
     match env::args(rt)?.nth(1) {
         Some(text) => Ok(text.parse::<u64>()?),
@@ -89,6 +89,7 @@ fn run(rt: &HostRuntime) -> anyhow::Result<()> {
         tables: wanted(rt)?,
         counts: Counts::default(),
     };
+    // four calls, since each has types of its own
     session.check(Plan::new(heap, OneJob, Sum)?, Test::OneJob, Pricing::Sum)?;
     session.check(
         Plan::new(heap, OneJob, Tiers)?,

@@ -116,12 +116,14 @@ impl<T: ResponseTest + Drop, C: Cost + Drop> Pair<'_, T, C> {
         differ(self.rt, what, &self.table()?, first, second)
     }
 
-    // Gives both one command, with a buffer of some size, and compares what is seen. Returns the answer.
+    // Gives both one command, with a buffer of some size, and compares what is seen. Returns the answer. Command and size are handed on twice
+    // from here: a struct of both would be made for that alone.
     pub fn obey(&mut self, command: Command, size: usize) -> anyhow::Result<Reply> {
         let first = self.first_sight(command, size)?;
         let second = self.second_sight(command, size)?;
         if first != second {
             let (name, number) = named(command);
+            // two calls: one call would build the table also where it is not printed
             match command {
                 Command::Load(file) => differ(self.rt, name, file, &(number, first), &second)?,
                 _ => self.differ(name, &(number, first), &second)?,

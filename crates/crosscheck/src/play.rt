@@ -13,7 +13,8 @@ const TICKS: u64 = 400;
 // The longest busy window is played to its end if it is no longer than this.
 const MOST_TICKS: u64 = 10_000;
 
-// The tasks of the order that was found are in time, so the 0 is never taken.
+// The tasks of the order that was found are in time, so the 0 is never taken. A list beside the order, since both are given to the machine, and
+// the times are printed where they differ.
 fn times_of(heap: Global, problem: &Problem, order: &[usize]) -> Result<Vec<u64>, AllocError> {
     let mut times = Vec::new(heap);
     let mut above = 0;

@@ -8,7 +8,7 @@ fn second_record(file: &[u8], number: usize) -> Result<&[u8], Reason> {
     let [_, packed_count, records @ ..] = file else {
         return Err(Reason::WrongLength);
     };
-    let count = (*packed_count % 32) as usize;
+    let count = usize::from(*packed_count % 32);
     if records.len() != count * 12 {
         return Err(Reason::WrongLength);
     }

@@ -1,5 +1,6 @@
 // The answers of the first planner in the words of the second, and what is printed where they differ. Functions say it, since neither
-// planner's types are this crate's, so it may not write a `From` between them.
+// planner's types are this crate's, so it may not write a `From` between them. The second planner could, but it is not to know the faults
+// and outcomes of the first.
 use anyhow::anyhow;
 use law::command::Outcome;
 use second::reply::Reply;
@@ -52,6 +53,7 @@ pub fn differ<A: Debug, B: Debug>(
     second: &B,
 ) -> anyhow::Result<()> {
     print!(rt; "differ in {what}, table ")?;
+    // byte by byte, since `Debug` of a slice prints brackets and commas
     for byte in table {
         print!(rt; "{byte:02x}")?;
     }

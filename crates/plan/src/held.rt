@@ -9,6 +9,8 @@ ghost use Rattle.plan.specs.Ids.{rank, Found};
 use tasks::list::TaskList;
 use tasks::task::Task;
 
+// Functions and no methods, since the type of the list is of another crate.
+
 // The position of the task of that id.
 pub(crate) fn find(tasks: &[Task], id: u8) -> Option<usize>
     ensures { Found id (map plain tasks.now) result }

@@ -20,7 +20,9 @@ mod report;
 mod seek;
 
 // The tasks ascend by id. Nothing here depends on what the test or the cost answers. The search stands beside the state of an open plan too,
-// since its memory is reserved once.
+// since its memory is reserved once. Clauses say `means` with the test, the cost and the plan each time: the definition takes what
+// the test and the cost promise as arguments, and a model of the plan could not name them without its bounds. `Drop` is a bound of each impl,
+// since as a supertrait it would be asked of all who write a test or a cost.
 #[derive(Drop)]
 pub struct Plan<T, C> {
     test: T,

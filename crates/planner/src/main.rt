@@ -25,6 +25,7 @@ const STEP: u32 = 1_000_000;
 
 const STEPS: u32 = 1_000;
 
+// The handle goes to each function that prints.
 fn print_refusal(rt: &HostRuntime, fault: Fault) -> io::Result<()> {
     let mut line = [0u8; REFUSAL_LEN];
     if let Ok(count) = refusal_line(fault, &mut line) {
@@ -39,8 +40,7 @@ fn print_listing<T: ResponseTest + Drop, C: Cost + Drop>(
 ) -> io::Result<()> {
     let mut text = [0u8; LISTING_LEN];
     match plan.listing(&mut text) {
-        Ok(count) if count <= text.len() => rt.stdout().write_all(&text[0..count]),
-        Ok(_) => Ok(()),
+        Ok(count) => rt.stdout().write_all(&text[0..count.min(LISTING_LEN)]),
         Err(fault) => print_refusal(rt, fault),
     }
 }
@@ -99,7 +99,8 @@ fn plan_table<T: ResponseTest + Drop, C: Cost + Drop>(
 fn main(rt: HostRuntime) -> anyhow::Result<()> {
     let mut file = Vec::new(rt.alloc());
     rt.stdin().take(LONGEST_INPUT).read_to_end(&mut file)?;
-    // The codes stay numbers: tests and costs of others have codes too, so no enum of this program lists them.
+    // The codes stay numbers: tests and costs of others have codes too, so no enum of this program lists them. Each arm
+    // is a call of its own, since its types are others.
     match codes(&file) {
         Some(
             Codes {

@@ -13,6 +13,11 @@ use Rattle.response.specs.Demand.{AllLegal, demand_mono, settled_is, settles}
 use Rattle.response.proofs.Demand.{at_timed}
 use Rattle.response.specs.Jobs.{times_pos, closes_at, delay_at, delay_none, window_at, window_none}
 
+-- what `closes` is where a job's end is not known
+module _ (ts : List Timing) (i h : ℕ) where
+  pub closes_none : (n : ℕ) → busy ts i h n ≡ None → closes ts i h n ≡ false
+  closes_none n e = rw (e, closes)
+
 -- ---- the loop over the jobs
 
 -- what is known before job n, where the job before ends at `end` and n is released at `release`

@@ -15,6 +15,8 @@ fn periods_begun(w: u32, period: u32) -> u32
     w.div_ceil(period)
 }
 
+// Tasks and set are two parameters, as of `respond`: a struct of both would be made for each answer, and its clauses would take it apart.
+
 // The base and the demand of `above` in a window of w ticks, or none past the limit.
 // A loop is plainer than a `try_fold`, which would test the limit twice too, and inside two closures.
 fn load_within(tasks: &[Task], above: TaskSet, base: u32, w: u32, limit: u32) -> Option<u32>

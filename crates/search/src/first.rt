@@ -69,6 +69,7 @@ impl<T: ResponseTest, C: Cost> Problem<'_, T, C> {
         let held = self.tasks.as_slice();
         let placed = TaskSet::first(held.len());
         let mut unplaced = placed;
+        // two arrays and no ranking that grows: this fills levels from the lowest up, and `with` adds the next level below
         let mut order = [0; 16];
         let mut times = [0; 16];
         // by level, since nothing is known of what a reversed `iter_mut` of the order wrote

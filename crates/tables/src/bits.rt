@@ -42,7 +42,7 @@ impl<'a> BitReader<'a> {
     }
 }
 
-// Numbers packed one after another into one.
+// Numbers packed one after another into one. The count of bits is no length of a buffer: it says how large the number may be.
 #[derive(Drop)]
 pub struct BitWriter {
     pub word: u128,
@@ -52,6 +52,7 @@ pub struct BitWriter {
 }
 
 impl BitWriter {
+    // No Default: it cannot be derived beside a ghost field, and by hand it would be these lines in an impl of its own.
     pub fn new() -> BitWriter
         ensures word { result.word ≡ 0 }
         ensures bits { result.bits ≡ 0 }

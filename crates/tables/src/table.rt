@@ -32,9 +32,7 @@ pub fn record(file: &[u8], n: usize) -> Result<&[u8], Fault>
 pub fn codes(file: &[u8]) -> Option<Codes>
     ensures { option_map code_pair result ≡ codes_in file.now }
 {
-    let Ok((header, _)) = split(file) else {
-        return None;
-    };
+    let (header, _) = split(file).ok()?;
     Some(Codes {
         test: header.test as u8,
         cost: header.cost as u8,

@@ -55,6 +55,7 @@ pub enum Layer {
     Plan,
 }
 
+// Number, layer and record are written out: the faults lie in three enums, and some hold a record, so no derive gives them.
 impl Fault {
     pub fn number(self) -> u8
         ensures { result ≡ number_of self }

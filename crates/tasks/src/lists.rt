@@ -1,6 +1,7 @@
 // Making and reading a list of tasks.
 ghost use Rattle.std.specs.Prelude.{◌≡◌, ◌<◌, ◌≤◌, [], ◌∷◌, ◌++◌, length, Ok, Err};
 ghost use Rattle.tasks.specs.Lists.{items};
+ghost use Rattle.tasks.specs.Tasks.{plain, blank};
 ghost use Rattle.tasks.specs.declared.fault.PlanFault.TheVariants.{Full};
 
 use crate::fault::PlanFault;
@@ -8,8 +9,10 @@ use crate::list::TaskList;
 use crate::task::Task;
 use arrayvec::ArrayVec;
 
-// What stands in a list where there is no task: no list shows it.
+// What stands in a list where there is no task: no list shows it. By hand, since no Default is derived for a struct with ghost fields.
 impl Default for Task {
+    ghost is_default = { λ t. plain t ≡ blank };
+
     fn default() -> Task {
         Task {
             id: 0,
@@ -24,6 +27,7 @@ impl Default for Task {
 }
 
 impl TaskList {
+    // No Default: it cannot be derived beside a ghost field, and by hand it would be these lines in an impl of its own.
     pub fn new() -> TaskList
         ensures { items result ≡ [] }
     {

@@ -7,6 +7,7 @@ pub struct TaskSet {
     pub word: u64,
 }
 
+// No method asks for a position below 64, so its clauses say both cases.
 impl TaskSet {
     pub const EMPTY: TaskSet = TaskSet { word: 0 };
 

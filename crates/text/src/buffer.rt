@@ -1,4 +1,4 @@
-// Bytes for the buffer of a caller.
+// Bytes for the buffer of a caller. What it then holds is one definition, `delivered`, that each call names over its own bytes.
 ghost use Rattle.std.specs.Prelude.{◌≡◌, ◌≤◌, length};
 ghost use Rattle.tasks.specs.Buffers.{delivered};
 

@@ -38,7 +38,8 @@ pub fn refusal_line(fault: Fault, out: &mut [u8]) -> Result<usize, Fault>
     deliver(text.as_bytes(), REFUSAL_LEN, out)
 }
 
-// Writes a line for each level and the line of the cost, and returns their length.
+// Writes a line for each level and the line of the cost, and returns their length. At most sixteen levels, in a slice: a list that carries its
+// bound would ask more of callers.
 pub fn listing(levels: &[Level], cost: (u64, u64), out: &mut [u8]) -> Result<usize, Fault>
     requires { length levels.now ≤ 16 }
     ensures fits { length (listing_text (map numbers levels.now) cost) ≤ 512 }

@@ -13,7 +13,8 @@ use response::test::ResponseTest;
 use tasks::fault::{Fault, PlanFault};
 
 impl<T: ResponseTest + Drop, C: Cost + Drop> Plan<T, C> {
-    // Matches the state together with the command.
+    // Matches the state together with the command, which is data of the caller: the check sees that no pair is missing. Each step asks for the
+    // state that its arm has seen; a value that stands for it would be made in the arm and say no more.
     pub(crate) fn act(&mut self, command: Command, out: &mut [u8]) -> Result<Outcome, Fault>
         ensures { Obeyed (means T.Admission T.ResponseTest.own C.Cost self.old) command.entry self.old self.new out.old out.new result }
     {

@@ -14,7 +14,8 @@ use tasks::fault::{Fault, PlanFault};
 use tasks::set::TaskSet;
 
 impl<T: ResponseTest + Drop, C: Cost + Drop> Plan<T, C> {
-    // The response time of the task of an id, with the tasks of a set of ids above it; none where it is late.
+    // The response time of the task of an id, with the tasks of a set of ids above it; none where it is late. Id and set are the two parts of a
+    // question of the interface.
     pub fn ask(&self, id: u8, above: u64) -> Result<Option<u32>, Fault>
         ensures { result ≡ asked (means T.Admission T.ResponseTest.own C.Cost self.now) (model self.now).tasks id above }
     {

@@ -45,7 +45,8 @@ impl<T: ResponseTest + Drop, C: Cost + Drop> Plan<T, C> {
         Ok(())
     }
 
-    // Examines `count` vertices, at most 1,000,000, or all that are left if fewer.
+    // Examines `count` vertices, at most 1,000,000, or all that are left if fewer. By a match of its own: through `act` the progress would have
+    // to be taken out of an outcome again.
     pub fn advance(&mut self, count: u32) -> Result<Progress, Fault>
         ensures { Called progress (means T.Admission T.ResponseTest.own C.Cost self.old) (Advance count) self.old self.new result }
     {

@@ -14,6 +14,7 @@ use std::alloc::{AllocError, Global};
 use tasks::list::TaskList;
 
 impl<T: ResponseTest + Drop, C: Cost + Drop> Plan<T, C> {
+    // A test and a cost are two parameters, since the plan itself is the struct of both.
     // An open plan with no task. All the memory that it will ever need is reserved here.
     pub fn new(heap: Global, test: T, cost: C) -> Result<Plan<T, C>, AllocError>
         ensures { IfOk result (λ p. (model p ≡ opened []) × (p.test ≡ test) × (p.cost ≡ cost)) }

@@ -10,6 +10,7 @@ use costs::cost::Cost;
 use costs::fold::add_task;
 use response::test::ResponseTest;
 
+// Its positions are asked to be below the number of tasks, here and where a vertex is entered, since a ranking does not know its tasks.
 impl Ranking {
     // The cost of the placed tasks and of each other task below exactly these, or none where one is late.
     pub(crate) fn bound<T: ResponseTest, C: Cost>(

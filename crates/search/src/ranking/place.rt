@@ -8,6 +8,7 @@ use super::Ranking;
 use tasks::set::TaskSet;
 
 impl Ranking {
+    // No Default: it cannot be derived beside a ghost field, and by hand it would be these lines in an impl of its own.
     pub fn none() -> Ranking
         ensures { ranked result ≡ nothing_placed }
     {

@@ -16,6 +16,7 @@ use response::test::ResponseTest;
 use std::alloc::{AllocError, Global};
 use tasks::fault::PlanFault;
 
+// Each step says that the size stays: a fact of before and after, which no invariant can hold.
 impl Search {
     // A search that has nothing to examine, with room for every search.
     pub fn new(heap: Global) -> Result<Search, AllocError>

@@ -22,6 +22,7 @@ pub(crate) struct Walk<'a, T, C: Cost> {
     ghost priced: { price ≡ worth (priced (C.prices problem.cost.now) (plains problem.tasks.now)) (ranked search.now.best) },
 }
 
+// Each method says that search and problem stay the same: a fact of before and after, which no invariant of the walk can hold.
 impl<'a, T: ResponseTest, C: Cost> Walk<'a, T, C> {
     ghost use Rattle.std.specs.Prelude.{◌≤◌, true, false, [], vec_len, not};
     ghost use Rattle.orders.specs.Search.{is_none};
