@@ -82,7 +82,7 @@ impl From<Reason> for Refusal {
 }
 
 impl fmt::Display for Refusal {
-    ghost output = { λ r. Some (codes "refused " ++ (decimal (number_of r.reason) ++ (codes " record " ++ decimal r.«record»))) };
+    ghost output = { λ r. Some (codes "refused " ++ decimal (number_of r.reason) ++ codes " record " ++ decimal r.«record») };
 
     fn fmt<W: fmt::Write>(&self, f: &mut fmt::Formatter<W>) -> fmt::Result {
         let number = u64::from(self.reason);
