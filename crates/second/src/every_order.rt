@@ -1,4 +1,6 @@
 // Orders of the tasks and what they cost; the cheapest of all orders, by trying each.
+ghost use Rattle.std.specs.Prelude.{◌≡◌, ◌+◌, min};
+
 use crate::table::{Kind, Pricing, Row};
 use crate::times::{Times, bit};
 use arrayvec::ArrayVec;
@@ -30,6 +32,8 @@ impl Price {
 
 impl Add for Price {
     type Output = Price;
+
+    ghost add_gives = { λ a b r. r ≡ record { first = min (a.first + b.first) 18446744073709551615; second = min (a.second + b.second) 18446744073709551615 } };
 
     fn add(self, other: Price) -> Price {
         Price {

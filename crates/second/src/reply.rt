@@ -1,4 +1,9 @@
 // What a planner answers, and why it refuses. An answer tells a refusal by its number, since each planner has its own names for refusals.
+ghost use Rattle.std.specs.Prelude.{◌≡◌, ◌++◌, MatchResult, Some, codes, decimal};
+ghost use Rattle.second.specs.Reasons.{number_of};
+ghost use Rattle.second.specs.declared.reply.Failure.TheVariants as failure;
+ghost use Rattle.second.specs.declared.reply.Reply.TheVariants as reply;
+
 use std::alloc::AllocError;
 use std::fmt;
 use thiserror::Error;
@@ -42,6 +47,8 @@ pub enum Reason {
 }
 
 impl From<Reason> for u64 {
+    ghost from_gives = { λ reason n. n ≡ number_of reason };
+
     fn from(reason: Reason) -> u64 {
         reason as u64
     }
@@ -49,10 +56,12 @@ impl From<Reason> for u64 {
 
 impl Reason {
     // With the record of a table that is refused.
-    pub(crate) fn in_record(self, record: u64) -> Refusal {
+    pub(crate) fn in_record(self, number: u64) -> Refusal
+        ensures { result ≡ record { reason = self; «record» = number } }
+    {
         Refusal {
             reason: self,
-            record,
+            record: number,
         }
     }
 }
@@ -65,12 +74,16 @@ pub struct Refusal {
 }
 
 impl From<Reason> for Refusal {
+    ghost from_gives = { λ reason r. r ≡ record { reason = reason; «record» = 0 } };
+
     fn from(reason: Reason) -> Refusal {
         reason.in_record(0)
     }
 }
 
 impl fmt::Display for Refusal {
+    ghost output = { λ r. Some (codes "refused " ++ decimal (number_of r.reason) ++ codes " record " ++ decimal r.«record») };
+
     fn fmt<W: fmt::Write>(&self, f: &mut fmt::Formatter<W>) -> fmt::Result {
         let number = u64::from(self.reason);
         let record = self.record;
@@ -79,6 +92,8 @@ impl fmt::Display for Refusal {
 }
 
 impl From<Refusal> for Reply {
+    ghost from_gives = { λ refusal r. r ≡ reply.Refused (number_of refusal.reason) refusal.«record» };
+
     fn from(refusal: Refusal) -> Reply {
         Reply::Refused {
             number: refusal.reason.into(),
@@ -98,7 +113,9 @@ pub enum Failure {
 
 impl Failure {
     // The refusal, or the want of memory.
-    pub fn refusal(self) -> Result<Refusal, AllocError> {
+    pub fn refusal(self) -> Result<Refusal, AllocError>
+        ensures { MatchResult result (λ r. self ≡ failure.Refused r) (λ e. self ≡ failure.Memory e) }
+    {
         match self {
             Failure::Refused(refusal) => Ok(refusal),
             Failure::Memory(error) => Err(error),
@@ -107,6 +124,8 @@ impl Failure {
 }
 
 impl From<Reason> for Failure {
+    ghost from_gives = { λ reason f. f ≡ failure.Refused (record { reason = reason; «record» = 0 }) };
+
     fn from(reason: Reason) -> Failure {
         Failure::Refused(reason.into())
     }

@@ -1,5 +1,7 @@
 // The second planner's tasks, and its own reading and packing of a table: a record is one number of 96 bits, and fields are taken off
 // its end by division.
+ghost use Rattle.std.specs.Prelude.{◌≡◌, min};
+
 use crate::reply::{Reason, Refusal};
 use arrayvec::ArrayVec;
 use std::alloc::{AllocError, Global};
@@ -19,7 +21,7 @@ pub struct Row {
 
 impl Row {
     // The first rule that a task breaks by itself.
-    pub fn check(&self, test: Test) -> Result<(), Reason> {
+    pub(crate) fn check(&self, test: Test) -> Result<(), Reason> {
         let times = [self.execution, self.deadline, self.period];
         let admitted = match test {
             Test::OneJob => self.deadline <= self.period,
@@ -42,6 +44,8 @@ impl Row {
 }
 
 impl From<Candidate> for Row {
+    ghost from_gives = { λ c r. r ≡ record { id = c.id; tier = c.tier; weight = c.weight; section = c.section; execution = c.execution; deadline = c.deadline; period = c.period } };
+
     fn from(candidate: Candidate) -> Row {
         Row {
             id: u64::from(candidate.id),
@@ -55,12 +59,16 @@ impl From<Candidate> for Row {
     }
 }
 
-fn narrow(number: u64) -> u32 {
+fn narrow(number: u64) -> u32
+    ensures { result ≡ min number 4294967295 }
+{
     u32::try_from(number).unwrap_or(u32::MAX)
 }
 
 // A number that is too large becomes the largest.
 impl From<Row> for Candidate {
+    ghost from_gives = { λ r c. c ≡ record { id = min r.id 4294967295; tier = min r.tier 4294967295; weight = min r.weight 4294967295; section = min r.section 4294967295; execution = min r.execution 4294967295; deadline = min r.deadline 4294967295; period = min r.period 4294967295 } };
+
     fn from(row: Row) -> Candidate {
         Candidate {
             id: narrow(row.id),

@@ -1,4 +1,7 @@
 // A tick machine: plays an order tick by tick, and looks whether a job takes longer than its task's time.
+ghost use Rattle.std.specs.Prelude.{◌≡◌, ◌≢◌, ◌↔◌, Any, IsTrue};
+ghost use Rattle.second.specs.declared.ticks.Workload.TheVariants.{Worst};
+
 use crate::every_order::Problem;
 use crate::random::Random;
 use crate::table::Row;
@@ -178,7 +181,9 @@ impl Machine {
     }
 
     // Whether the workload is the worst, and yet some level had no job that took as long as its time.
-    pub fn missed_worst(&self) -> bool {
+    pub fn missed_worst(&self) -> bool
+        ensures { IsTrue result ↔ (self.now.workload ≡ Worst) × Any (λ lane. lane.longest ≢ lane.time) self.now.lanes.items }
+    {
         matches!(self.workload, Workload::Worst)
             && self.lanes.iter().any(|lane| lane.longest != lane.time)
     }

@@ -85,8 +85,11 @@ fn next_task(path: &mut Path, count: usize, below: bool) -> Option<usize> {
     None
 }
 
-// The walk over the tasks of a table; none where no order passes.
+// The walk over the tasks of a table; none where no order passes, or there is no task.
 pub fn walk_tree(problem: &Problem) -> Option<Walk> {
+    if problem.rows.is_empty() {
+        return None;
+    }
     let best = first_order(problem)?;
     let price = problem.path_price(&best)?;
     let mut found = Walk {
