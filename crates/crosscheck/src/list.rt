@@ -10,12 +10,12 @@ impl<T: ResponseTest + Drop, C: Cost + Drop> Pair<'_, T, C> {
     pub fn list(&self, size: usize) -> anyhow::Result<()> {
         let heap = self.rt.alloc();
         let mut buffer = vec![in heap; UNTOUCHED; size]?;
-        let first = self
-            .first
-            .listing(&mut buffer)
-            .map_or_else(of_fault, |count| Reply::Listed {
+        let first = self.first.listing(&mut buffer).map_or_else(
+            of_fault,
+            |count| Reply::Listed {
                 bytes: count as u64,
-            });
+            },
+        );
         let (second, text) = match self.second.listing(size) {
             Ok(text) => (
                 Reply::Listed {

@@ -1,5 +1,6 @@
 // Random tables: small numbers that a scan goes through, loads around the edge of what an order can bear, sections, equal costs,
-// deadlines below and beyond periods, and now and then large numbers or a long busy window.
+// deadlines below and beyond periods, and now and then large numbers or a long busy window. Where a drawn number or the test
+// chooses among numbers, a `match` or an `if` shows the odds.
 use crate::random::Random;
 use crate::table::{Row, Rows, Test};
 
@@ -118,7 +119,7 @@ fn draw_long_window(random: &mut Random) -> Rows {
     rows
 }
 
-// One task.
+// One task. The random numbers and the test are two parameters: a caller holds them in two places, and would make a struct for each draw.
 pub fn draw_one(random: &mut Random, test: Test) -> Row {
     let style = Style::drawn(random, test, 5);
     let id = random.between(0, 63);

@@ -14,6 +14,7 @@ pub struct Price {
 }
 
 impl Price {
+    // No `From`, since it takes three values to make a price.
     fn of(pricing: Pricing, row: Row, time: u64) -> Price {
         let product = row.weight.saturating_mul(time);
         if pricing == Pricing::Tiers && row.tier == 1 {

@@ -32,6 +32,7 @@ impl Shadow {
         }
     }
 
+    // By a match: a command is data of the caller, and the check sees that none is missing.
     pub fn obey(&mut self, command: Command, out: &mut [u8]) -> Result<Reply, Failure> {
         match command {
             Command::Load(file) => Ok(self.load(file)?),
@@ -48,7 +49,7 @@ impl Shadow {
         self.begun.as_ref().is_some_and(|begun| begun.left > 0)
     }
 
-    // The order that the walk found; none before a walk.
+    // The order that the walk found; none before a walk. By a match, since `map_or` would need a closure that turns the list into a slice.
     pub fn order(&self) -> &[usize] {
         match &self.begun {
             Some(begun) => &begun.found.best,

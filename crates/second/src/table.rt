@@ -59,6 +59,7 @@ impl From<Candidate> for Row {
     }
 }
 
+// As `short_id` of a question, for another type: a generic function would be longer than both.
 fn narrow(number: u64) -> u32
     ensures { result ≡ min number 4294967295 }
 {

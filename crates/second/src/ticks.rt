@@ -7,6 +7,7 @@ use crate::random::Random;
 use crate::table::Row;
 use std::alloc::{AllocError, Global};
 
+// A job names its lane by the place, since jobs of all levels wait in one list.
 #[derive(Clone, Copy)]
 struct Job {
     level: usize,
@@ -73,7 +74,8 @@ impl Workload {
     }
 }
 
-// The machine: its levels, the pending jobs by release, which of them ran last, and what says when jobs come.
+// The machine: its levels, the pending jobs by release, which of them ran last, and what says when jobs come. One list for
+// the jobs of all levels: a list in each lane would be one allocation more for each, and be printed with the lane.
 #[derive(Drop)]
 pub struct Machine {
     pub lanes: Vec<Lane>,

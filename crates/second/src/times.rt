@@ -83,7 +83,8 @@ impl Level<'_> {
     }
 }
 
-// The time of a task with the tasks of a set above it; none where it is late.
+// The time of a task with the tasks of a set above it; none where it is late. Task and set are the two parts of a question; `Level` holds them
+// once a time is sought.
 pub fn time(test: Test, rows: &[Row], task: usize, above: u64) -> Option<u64> {
     let row = *rows.get(task)?;
     let level = Level {
