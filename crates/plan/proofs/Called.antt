@@ -5,7 +5,7 @@ use Rattle.law.specs.declared.command.Command.{Command}
 use Rattle.law.specs.declared.command.Outcome.{Outcome}
 use Rattle.law.specs.Meaning.{Meaning}
 use Rattle.plan.specs.declared.plan.Plan.{Plan}
-use Rattle.plan.specs.Answers.{answered, told, Called, CalledWith}
+use Rattle.plan.specs.Answers.{answered, told, Called}
 use Rattle.plan.specs.Calls.{Obeyed, Unchanged}
 
 -- a step whose answer was turned into an outcome by `map`
@@ -35,16 +35,6 @@ module _ {T C V A : Type 0} (f : Outcome → A) (w : Meaning V) (command : Comma
     same = refused_as f r x e (λ (u : Unchanged p q [] left). u.0) o.same;
   }
 
-  pub called_with : (old left : List ℕ) (r : Result Outcome Fault) (x : Result A Fault) → Obeyed w command p q old left r → x ≡ answered f r
-      → CalledWith f w command p q old left x
-  called_with old left r x o e = record {
-    answers = e ∙ ap (λ y. answered f y.answer) o.reply;
-    leaves = ap (λ y. y.next) o.reply;
-    test = o.test;
-    cost = o.cost;
-    same = refused_as f r x e (λ (u : Unchanged p q old left). u) o.same;
-  }
-
   -- a step that tells its own answer, which the outcome gives back
   module _ (g : A → Outcome) (back : (a : A) → f (g a) ≡ a) where
     typed : (x : Result A Fault) → x ≡ answered f (told g x)
@@ -53,6 +43,3 @@ module _ {T C V A : Type 0} (f : Outcome → A) (w : Meaning V) (command : Comma
 
     pub called_typed : (left : List ℕ) (x : Result A Fault) → Obeyed w command p q [] left (told g x) → Called f w command p q x
     called_typed left x o = called left (told g x) x o (typed x)
-
-    pub called_with_typed : (old left : List ℕ) (x : Result A Fault) → Obeyed w command p q old left (told g x) → CalledWith f w command p q old left x
-    called_with_typed old left x o = called_with old left (told g x) x o (typed x)

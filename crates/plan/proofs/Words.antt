@@ -1,16 +1,11 @@
 -- Sets of ids, one id or one position at a time.
-use Rattle.std.proofs.Common.{◌≡◌, ℕ, ◌+◌, ◌^◌, true, false, List, get_or, is_some, Some, None, Option, sym, refl, arith}
+use Rattle.std.proofs.Common.{◌≡◌, ℕ, ◌+◌, ◌^◌, true, false, List, get_or, refl, arith}
 use Rattle.tasks.specs.declared.task.Candidate.{Candidate}
 use Rattle.tasks.specs.Numbers.{sum_below}
 use Rattle.tasks.specs.Sets.{holds}
 use Rattle.tasks.proofs.Ranges.{sum_next}
 use Rattle.costs.specs.Folds.{no_task}
-use Rattle.law.specs.Held.{has}
-use Rattle.plan.specs.Ids.{Found, bit_if_in}
-
-pub found_is : (id : ℕ) (cs : List Candidate) (o : Option ℕ) → Found id cs o → is_some o ≡ has id cs
-found_is id cs None h = sym h
-found_is id cs (Some i) h = sym h.0
+use Rattle.plan.specs.Ids.{bit_if_in}
 
 module _ (ids : ℕ) (cs : List Candidate) where
   pub bit_in : (i word bit : ℕ) → holds ids (get_or cs i no_task).id ≡ true → bit ≡ 2 ^ i → word ≡ sum_below i (bit_if_in ids cs)

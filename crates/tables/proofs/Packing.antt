@@ -1,12 +1,11 @@
 -- Bytes, the number that they write, and the numbers that stand in it.
-use Rattle.std.proofs.Common.{◌≡◌, ℕ, zero, suc, ◌+◌, ◌-◌, ◌*◌, ◌/◌, ◌%◌, ◌^◌, ◌<◌, ◌≤◌, List, [], ◌∷◌, length, get_or, take, sym, refl, ap, ◌∙◌, ⊎_elim, mul_assoc, mul_comm, add-mul, pow-suc, zero-add, arith}
+use Rattle.std.proofs.Common.{◌≡◌, ℕ, zero, suc, ◌+◌, ◌-◌, ◌*◌, ◌/◌, ◌%◌, ◌^◌, ◌<◌, ◌≤◌, List, [], ◌∷◌, length, get_or, sym, refl, ap, ◌∙◌, ⊎_elim, mul_assoc, mul_comm, add-mul, pow-suc, zero-add, arith}
 use native.Mathlib.Nat.{add-mul-mod_self_right, pow-le-pow_right}
 use lib.Bits.{bit_or}
 use Rattle.std.specs.Int.Digits.{number_from_digits, number_from_digits_after, AllBelowBase}
 use Rattle.std.proofs.lemmas.Nat.{field_of, mod_below, mod_low, mod-pow-add, mul-add-lt, or_shifted, pow-add, pow_pos, shl_whole, shr_high, shr-shr}
 use Rattle.std.proofs.lemmas.Int.Digits.{number_lt}
 use Rattle.std.proofs.lemmas.Bool.{cases_lt}
-use Rattle.std.specs.Borrow.{Bor}
 use Rattle.tables.specs.Bits.{field, bytes_of}
 
 pow_8 : (k : ℕ) → 2 ^ (8 * suc k) ≡ 256 * 2 ^ (8 * k)
@@ -63,11 +62,6 @@ module _ (word bits width value : ℕ) (w : word < 2 ^ bits) (v : value < 2 ^ wi
   pub put_small : bit_or ((word * 2 ^ width) % 2 ^ 128) value < 2 ^ (bits + width)
   put_small = rw (put_value, pow-add 2 bits width, mul_comm (2 ^ bits) (2 ^ width)) (mul-add-lt word (2 ^ width) value (2 ^ bits) w v)
 
-pub two_bytes : (file : List ℕ) → 2 ≤ length file → take 2 file ≡ get_or file 0 0 ∷ get_or file 1 0 ∷ []
-two_bytes [] h = absurd (omega arith)
-two_bytes (a ∷ []) h = absurd (omega arith)
-two_bytes (a ∷ b ∷ rest) h = refl
-
 -- a field of one more bit
 pub field_more : (bytes : List ℕ) (at width : ℕ) → at + width < 8 * length bytes
     → field bytes at (width + 1) ≡ 2 * field bytes at width + field bytes (at + width) 1
@@ -123,8 +117,3 @@ field_bit (b ∷ bs) at u h = ⊎_elim
     let inside : q < 8 * length bs = omega arith in
     rw (byte, place) (ap (λ p. field (b ∷ bs) p 1) is ∙ (later_byte b bs q inside ∙ field_bit bs q u.1 inside)))
     (cases_lt at 8)
-
--- a field that was taken where the bytes and the place are known
-pub taken_from : {value at at' : ℕ} {bytes bytes' : Bor (List ℕ)} (width : ℕ) → value ≡ field bytes'.now at' width → bytes' ≡ bytes → at' ≡ at
-    → value ≡ field bytes.now at width
-taken_from width is same here = is ∙ (λ i. field (same i).now (here i) width)

@@ -3,7 +3,7 @@ use Rattle.std.proofs.Common.{◌≡◌, ℕ, zero, suc, ◌+◌, ◌-◌, ◌*�
 use mathlib.Core.Path.{fun_ext}
 use native.Mathlib.Nat.{div-eq_of_lt, div_self}
 use lib.Pow.{pow-lt}
-use lib.Bits.{bit_and, bit_or, and_mask, or_shr, or_mod, and_shr, and_mod}
+use lib.Bits.{bit_and, bit_or, or_shr, or_mod, and_shr, and_mod}
 use lib.Arith.{lt-one}
 use Rattle.tasks.proofs.Ranges.{sum_front}
 use lib.Count.{ones, ones_step}
@@ -15,9 +15,6 @@ use Rattle.tasks.specs.Sets.{holds, members}
 -- the bit at i, as a number
 abbrev pub bit : ℕ → ℕ → ℕ
 bit w i = (w / (2 ^ i)) % 2
-
-pub contains_low : (w i : ℕ) → eqb (bit_and (w / (2 ^ i)) 1) 1 ≡ holds w i
-contains_low w i = ap (λ (x : ℕ). eqb x 1) (and_mask (w / (2 ^ i)) 1)
 
 pub contains_high : (w i : ℕ) → w < 2 ^ 64 → 64 ≤ i → holds w i ≡ false
 contains_high w i small high =

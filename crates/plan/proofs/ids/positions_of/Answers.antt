@@ -1,21 +1,13 @@
-use Rattle.std.proofs.Common.{◌≡◌, ◌+◌, ◌*◌, ◌%◌, ◌^◌, ◌≤◌, map, length, get_or, sym, ap, ◌∙◌, add-one, arith}
-use native.Mathlib.Nat.{pow-le-pow_right}
+use Rattle.std.proofs.Common.{◌≡◌, ◌+◌, ◌*◌, ◌%◌, ◌^◌, map, get_or, sym, ap, ◌∙◌, add-one, arith}
 use native.Mathlib.Omega.{pow_step}
 use Rattle.std.proofs.lemmas.Nat.{one_shl}
-use Rattle.std.proofs.lemmas.List.{get_or-map, length-map}
+use Rattle.std.proofs.lemmas.List.{get_or-map}
 use Rattle.tasks.specs.Tasks.{plain}
 use Rattle.tasks.specs.Sets.{holds}
 use Rattle.costs.specs.Folds.{no_task}
 use Rattle.plan.proofs.Words.{sum_none, bit_in, bit_out}
 use Rattle.plan.proofs.ids.positions_of.Goals as goal
 use Rattle.plan.proofs.ids.positions_of.Goals.{then-contains, else-contains}
-
-pub overflow_add-word : goal.overflow_add-word
-overflow_add-word c =
-    let i = c.loop-i.i in
-    let bit : (1 * 2 ^ i) % 2 ^ 64 ≡ 2 ^ i = one_shl i 64 (omega arith) in
-    let low : 2 ^ i ≤ 2 ^ 16 = pow-le-pow_right {n = 2} (omega arith) {i = i} {j = 16} (omega arith) in
-    record { fits = omega (arith, bit, low, c.loop-i.invariant.1) }
 
 pub loop-i-init : goal.loop-i-init
 loop-i-init c = (sum_none _, omega arith)
@@ -40,8 +32,3 @@ loop-i-preserved c =
         omega (arith, twice, w.word-is, c.loop-i.invariant.1),
       )
     ]
-
-pub returns : goal.returns
-returns c =
-    let all : c.loop-i.i ≡ length (map plain c.args.tasks.now) = omega (arith, length-map c.args.tasks.now plain) in
-    rw all at c.loop-i.invariant.0

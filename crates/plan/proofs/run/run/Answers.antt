@@ -18,8 +18,8 @@ loop-command-preserved g c =
     c.loop-command-test.true inv.2 inv.3 same done in
     (omega arith, omega arith, rw c.push_reserved.ensures.items more.0, more.1, done.test ∙ inv.4, done.cost ∙ inv.5)
 
-pub returns : goal.returns
-returns g c =
+pub returns-clause-led : goal.returns-clause-led
+returns-clause-led g c =
     let p = c.args.plan.now in
     let w = means g.T.Admission g.T.ResponseTest g.C.Cost p in
     let start = at p c.args.out.now in
@@ -27,4 +27,4 @@ returns g c =
     let inv = c.loop-command.invariant in
     let all = run_all w start c.args.commands.now c.loop-command.command-index (vec_items c.loop-command.answers) (at c.loop-command.plan c.loop-command.out)
     c.loop-command-test.false inv.2 inv.3 in
-    record { ran = all; led = led_on w lawful c.args.commands.now start (at c.loop-command.plan c.loop-command.out) all.reached }
+    led_on w lawful c.args.commands.now start (at c.loop-command.plan c.loop-command.out) all.reached

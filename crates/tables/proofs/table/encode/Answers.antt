@@ -1,5 +1,4 @@
-use Rattle.std.proofs.Common.{◌≡◌, ℕ, ◌+◌, ◌*◌, ◌<◌, ◌≤◌, List, ◌++◌, map, length, take, drop, Ok, Result, sym, refl, ap, ◌∙◌, subst, arith, lt-ltb}
-use Rattle.std.proofs.lemmas.List.{append-nil}
+use Rattle.std.proofs.Common.{◌≡◌, ℕ, ◌+◌, ◌*◌, ◌<◌, ◌≤◌, List, ◌++◌, map, length, take, drop, Ok, Result, ap, ◌∙◌, subst, arith, lt-ltb}
 use Rattle.tasks.specs.declared.task.Task.{Task}
 use Rattle.tasks.specs.declared.list.Codes.{Codes}
 use Rattle.tasks.specs.declared.list.TaskList.{TaskList}
@@ -22,9 +21,6 @@ returns-then-out-size c =
     let small : length c.args.out.now < length (encoded c.args.codes.test c.args.codes.cost (map plain (items c.args.list.now)))
     = omega (arith, encoded_size c.args.codes.test c.args.codes.cost (items c.args.list.now), ap length c.as_slice-tasks.ensures.items) in
     record { written = rw (lt-ltb _ _ small); back = back c.args.codes c.args.list.now c.as_slice-tasks.result.now c.as_slice-tasks.ensures.items }
-
-pub loop-k-init : goal.loop-k-init
-loop-k-init c = (sym (append-nil _), refl)
 
 pub loop-k-preserved : goal.loop-k-preserved
 loop-k-preserved c =

@@ -10,9 +10,3 @@ returns-in-Searching g c =
     let p = c.args.self.now in
     called_typed progress (means g.T.Admission g.T.ResponseTest g.C.Cost p) (Advance c.args.count) p c.examine.new.self advanced (λ a. refl) [] c.examine.result
     (c.examine.ensures [])
-
-pub returns-in-Finished : goal.returns-in-Finished
-returns-in-Finished g c =
-    let p = c.args.self.now in
-    called_typed progress (means g.T.Admission g.T.ResponseTest g.C.Cost p) (Advance c.args.count) p p advanced (λ a. refl) [] c.rest.result
-    (c.rest.ensures [])

@@ -5,12 +5,9 @@ use Rattle.plan.specs.Model.{means}
 use Rattle.plan.proofs.Leads.{led_on}
 use Rattle.plan.proofs.plan.Plan.apply.Goals as goal
 
-pub returns : goal.returns
-returns g c =
+pub returns-clause-led : goal.returns-clause-led
+returns-clause-led g c =
     let p = c.args.self.now in
     let w = means g.T.Admission g.T.ResponseTest g.C.Cost p in
     let lawful : Lawful w = record { within = g.met.T.ResponseTest.within p.test; monotone = g.met.T.ResponseTest.monotone p.test; prices = g.met.C.Cost.lawful p.cost } in
-    record {
-      obeyed = c.act.ensures;
-      led = led_on w lawful (c.args.command ∷ []) (at p c.args.out.now) (at c.act.new.self c.act.new.out) (ap (λ r. r.next) c.act.ensures.reply);
-    }
+    led_on w lawful (c.args.command ∷ []) (at p c.args.out.now) (at c.act.new.self c.act.new.out) (ap (λ r. r.next) c.act.ensures.reply)

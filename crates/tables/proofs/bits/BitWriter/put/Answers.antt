@@ -1,4 +1,4 @@
-use Rattle.std.proofs.Common.{◌^◌, ◌<◌, refl, arith}
+use Rattle.std.proofs.Common.{◌^◌, ◌<◌, arith}
 use Rattle.tables.proofs.Packing.{put_value, put_small}
 use Rattle.tables.proofs.bits.BitWriter.put.Goals as goal
 
@@ -7,8 +7,8 @@ invariant_of-result c =
     let small : c.from.result < 2 ^ c.args.width = omega (arith, c.requires.value, c.from.ensures) in
     record { few = c.requires.room; small = put_small c.args.self.word c.args.self.bits c.args.width c.from.result c.args.self.small small c.requires.room }
 
-pub returns : goal.returns
-returns c =
+pub returns-clause-word : goal.returns-clause-word
+returns-clause-word c =
     let small : c.from.result < 2 ^ c.args.width = omega (arith, c.requires.value, c.from.ensures) in
     let is = put_value c.args.self.word c.args.self.bits c.args.width c.from.result c.args.self.small small c.requires.room in
-    record { word = omega (arith, is, c.from.ensures); bits = refl }
+    omega (arith, is, c.from.ensures)

@@ -1,10 +1,7 @@
 use Rattle.std.proofs.Common.{sym, ◌∙◌, arith}
 use Rattle.std.proofs.lemmas.Bool.{le-ltb}
-use Rattle.tasks.proofs.Words.{contains_low, contains_high}
+use Rattle.tasks.proofs.Words.{contains_high}
 use Rattle.tasks.proofs.set.TaskSet.contains.Goals as goal
-
-pub returns-then-position-lt64 : goal.returns-then-position-lt64
-returns-then-position-lt64 c = contains_low c.args.self.word c.args.position
 
 pub returns-else-position-lt64 : goal.returns-else-position-lt64
 returns-else-position-lt64 c =
