@@ -92,7 +92,7 @@ impl<T: ResponseTest + Drop, C: Cost + Drop> Pair<'_, T, C> {
 
     // A command that holds no file. Many tasks are never started with.
     fn drawn_command(&mut self) -> Command<'static> {
-        let few = self.second.rows.len() <= MOST_TASKS;
+        let few = self.second.rows.all().len() <= MOST_TASKS;
         let random = &mut self.random;
         match random.between(0, 10) {
             0..=3 => Command::Add(drawn_candidate(random, self.second.kind.test)),
@@ -109,7 +109,7 @@ impl<T: ResponseTest + Drop, C: Cost + Drop> Pair<'_, T, C> {
         let kind = self.second.kind;
         let count = self.random.between(0, 5);
         let rows = draw(&mut self.random, kind.test, count);
-        let mut file = packed(heap, kind, &rows)?;
+        let mut file = packed(heap, kind, rows.all())?;
         if self.random.once_in(2) {
             file = scrambled(heap, &file, &mut self.random)?;
         }

@@ -61,11 +61,11 @@ impl Session<'_> {
         };
         for number in 0..self.tables {
             let rows = draw(&mut pair.random, test, number % 8);
-            let file = packed(heap, kind, &rows)?;
+            let file = packed(heap, kind, rows.all())?;
             pair.counts.tables = pair.counts.tables.saturating_add(1);
             pair.damage(&file)?;
             pair.load(&file)?;
-            pair.compare(&rows)?;
+            pair.compare(rows.all())?;
             pair.drill(COMMANDS)?;
             let _ = pair.obey(Command::Stop, 0)?;
         }

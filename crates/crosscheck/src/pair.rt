@@ -12,10 +12,13 @@ use second::table::packed;
 use second::times::Times;
 use std::alloc::{AllocError, Global};
 use std::fmt::Debug;
-use text::{REFUSAL_LEN, refusal_line};
+use text::refusal_line;
 
 // What stands in a buffer before it is lent, to see what stays.
 pub const UNTOUCHED: u8 = 0xA5;
+
+// How long the line of a refusal is at most. A number of this crate's own, since the first planner's constant is part of what is compared.
+const LINE_LEN: usize = 32;
 
 // What is seen after a command: the answer, the line of a refusal in 32 bytes, the lent buffer, the table of the held tasks in a buffer
 // of 200 bytes, and the vertex bound.
@@ -65,7 +68,7 @@ impl<T: ResponseTest + Drop, C: Cost + Drop> Pair<'_, T, C> {
         let heap = self.rt.alloc();
         let mut buffer = vec![in heap; UNTOUCHED; size]?;
         let answer = self.first.apply(command, &mut buffer);
-        let mut line = vec![in heap; UNTOUCHED; REFUSAL_LEN]?;
+        let mut line = vec![in heap; UNTOUCHED; LINE_LEN]?;
         if let Err(fault) = answer {
             let _ = refusal_line(fault, &mut line);
         }
@@ -94,7 +97,7 @@ impl<T: ResponseTest + Drop, C: Cost + Drop> Pair<'_, T, C> {
         };
         Ok(Sight {
             reply,
-            line: begun_with(heap, line.as_bytes(), REFUSAL_LEN)?,
+            line: begun_with(heap, line.as_bytes(), LINE_LEN)?,
             buffer,
             table: begun_with(heap, &self.table()?, 200)?,
             bound: self.second.vertex_bound(),
@@ -102,8 +105,8 @@ impl<T: ResponseTest + Drop, C: Cost + Drop> Pair<'_, T, C> {
     }
 
     // The table of the tasks that both should hold.
-    fn table(&self) -> Result<Vec<u8>, AllocError> {
-        packed(self.rt.alloc(), self.second.kind, &self.second.rows)
+    pub fn table(&self) -> Result<Vec<u8>, AllocError> {
+        packed(self.rt.alloc(), self.second.kind, self.second.rows.all())
     }
 
     // Prints a difference over the table that both should hold.

@@ -41,11 +41,11 @@ fn longest_window(problem: &Problem) -> Option<u64> {
 impl<T: ResponseTest + Drop, C: Cost + Drop> Pair<'_, T, C> {
     pub fn play(&mut self, problem: &Problem) -> anyhow::Result<()> {
         for _ in 0..3u32 {
-            let workload = Workload::Drawn(Random::new(self.random.between(0, 1 << 40)));
-            self.play_one(problem, workload, TICKS)?;
+            let mut workload = Workload::Drawn(Random::new(self.random.between(0, 1 << 40)));
+            self.play_one(problem, &mut workload, TICKS)?;
         }
         if let Some(ticks) = longest_window(problem) {
-            self.play_one(problem, Workload::Worst, ticks)?;
+            self.play_one(problem, &mut Workload::Worst, ticks)?;
         }
         Ok(())
     }
@@ -53,7 +53,7 @@ impl<T: ResponseTest + Drop, C: Cost + Drop> Pair<'_, T, C> {
     fn play_one(
         &mut self,
         problem: &Problem,
-        workload: Workload,
+        workload: &mut Workload,
         ticks: u64,
     ) -> anyhow::Result<()> {
         let heap = self.rt.alloc();

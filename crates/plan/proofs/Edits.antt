@@ -1,7 +1,8 @@
 -- One task more or less among the held tasks.
-use Rattle.std.proofs.Common.{◌≡◌, ℕ, suc, Bool, true, false, cond, ◌||◌, eqb, ltb, List, [], ◌∷◌, ◌++◌, map, take, drop, refl, ap}
-use Rattle.std.specs.List.{insert, remove}
-use Rattle.std.proofs.lemmas.List.{map-append, take-map, drop-map}
+use Rattle.std.proofs.Common.{◌≡◌, ℕ, suc, ◌+◌, ◌-◌, Bool, true, false, cond, ◌||◌, eqb, ltb, List, [], ◌∷◌, ◌++◌, map, length, take, drop, refl, ap, append_assoc, add-one}
+use native.Mathlib.Nat.{sub-zero}
+use Rattle.std.specs.List.{remove}
+use Rattle.std.proofs.lemmas.List.{take_rest, map-append, take-map, drop-map}
 use Rattle.tasks.specs.declared.task.Task.{Task}
 use Rattle.tasks.specs.Tasks.{plain}
 use Rattle.tasks.specs.declared.task.Candidate.{Candidate}
@@ -28,11 +29,17 @@ without_at id (t ∷ ts) h = step (eqb t.id id) h (without_at id ts)
     step true e h = refl
     step false e h = ap (λ xs. t ∷ xs) (h e)
 
--- a new task between the front of the tasks and the rest
-pub put_between : (ts : List Task) (t : Task) (at : ℕ) (whole : List Task) → whole ≡ insert ts at t → at ≡ rank t.id (map plain ts)
-    → map plain whole ≡ inserted (plain t) (map plain ts)
-put_between ts t at whole w e = rw (inserted_at (plain t) (map plain ts), ← e, w, map-append plain, take-map plain, drop-map plain) refl
+module _ (ts : List Task) (t : Task) (at : ℕ) (made front pushed whole : List Task) where
+  -- the front of the tasks, a new one, and the rest
+  pub put_between : made ≡ [] → front ≡ made ++ take (at - 0) ts → pushed ≡ front ++ (t ∷ []) → whole ≡ pushed ++ take (length ts - at) (drop at ts)
+      → at ≡ rank t.id (map plain ts) → map plain whole ≡ inserted (plain t) (map plain ts)
+  put_between m f p w e =
+      let all : whole ≡ take at ts ++ (t ∷ drop at ts)
+      = rw (w, p, f, m, sub-zero, take_rest ts at) (append_assoc (take at ts) (t ∷ []) (drop at ts)) in
+      rw (inserted_at (plain t) (map plain ts), ← e, all, map-append plain, take-map plain, drop-map plain) refl
 
--- the front of the tasks and the rest without one
-pub left_out : (ts : List Task) (at : ℕ) (whole : List Task) → whole ≡ remove ts at → map plain whole ≡ remove (map plain ts) at
-left_out ts at whole w = rw (w, map-append plain, take-map plain, drop-map plain) refl
+module _ (ts : List Task) (at : ℕ) (made front whole : List Task) where
+  -- the front of the tasks and the rest without one
+  pub left_out : made ≡ [] → front ≡ made ++ take (at - 0) ts → whole ≡ front ++ take (length ts - (at + 1)) (drop (at + 1) ts)
+      → map plain whole ≡ remove (map plain ts) at
+  left_out m f w = rw (w, f, m, sub-zero, take_rest ts (at + 1), map-append plain, take-map plain, drop-map plain, add-one) refl

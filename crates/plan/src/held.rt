@@ -1,5 +1,5 @@
 // The held tasks: looking an id up, and a task more or less.
-ghost use Rattle.std.specs.Prelude.{◌≡◌, ◌<◌, ◌≤◌, map, length};
+ghost use Rattle.std.specs.Prelude.{◌≡◌, ◌+◌, ◌<◌, ◌≤◌, ◌++◌, map, length};
 ghost use Rattle.std.specs.List.{remove};
 ghost use Rattle.tasks.specs.Lists.{items, plains};
 ghost use Rattle.tasks.specs.Tasks.{plain};
@@ -29,13 +29,29 @@ fn rank(tasks: &[Task], id: u8) -> usize
         .unwrap_or(tasks.len())
 }
 
+// Some tasks more at the end, one by one: the list is an array, which has no way to take several.
+fn extend(list: &mut TaskList, tasks: &[Task])
+    requires { list.old.len + length tasks.now ≤ 16 }
+    ensures items { items list.new ≡ items list.old ++ tasks.now }
+    ensures len { list.new.len ≡ list.old.len + length tasks.now }
+{
+    for task in tasks {
+        let _ = list.push(*task);
+    }
+}
+
 // One task more, before the first of a larger id.
 pub(crate) fn insert_task(list: &mut TaskList, task: Task)
     requires { length (items list.old) < 16 }
     ensures { plains list.new ≡ inserted (plain task) (plains list.old) }
 {
-    let at = rank(list.as_slice(), task.id);
-    list.tasks.insert(at, task);
+    let tasks = list.as_slice();
+    let at = rank(tasks, task.id);
+    let mut with = TaskList::new();
+    extend(&mut with, &tasks[0..at]);
+    let _ = with.push(task);
+    extend(&mut with, &tasks[at..tasks.len()]);
+    *list = with;
 }
 
 // The task at a position less.
@@ -43,5 +59,9 @@ pub(crate) fn remove_task(list: &mut TaskList, at: usize)
     requires { at < length (items list.old) }
     ensures { plains list.new ≡ remove (plains list.old) at }
 {
-    list.tasks.remove(at);
+    let tasks = list.as_slice();
+    let mut without = TaskList::new();
+    extend(&mut without, &tasks[0..at]);
+    extend(&mut without, &tasks[at + 1..tasks.len()]);
+    *list = without;
 }

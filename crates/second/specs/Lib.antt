@@ -1,1 +1,4 @@
+pub mod Checks
+pub mod Lists
 pub mod Reasons
+pub mod Times

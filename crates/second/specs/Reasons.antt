@@ -1,6 +1,8 @@
--- The number that each reason to refuse is told by.
-use Rattle.std.specs.Prelude.{ℕ}
+-- The number that each reason to refuse is told by, and the line of a refusal.
+use Rattle.std.specs.Prelude.{ℕ, List, [], ◌++◌, codes, decimal}
 use Rattle.second.specs.declared.reply.Reason.{Reason}
+use Rattle.second.specs.declared.reply.Reply.{Reply}
+use Rattle.second.specs.declared.reply.Reply.TheVariants.{Refused}
 use Rattle.second.specs.declared.reply.Reason.TheVariants.{WrongLength, UnknownFormat, SpareBit, OtherKind, OutOfRange, TooLittleTime, SectionTooLong, NotForTest, IdTaken, TooManyTasks, UnknownId, UnderWay, NotBegun, NotFinished, NoTasks, AlwaysLate, TooManySteps, BufferTooSmall, AboveItself, NoRecord}
 
 abbrev pub number_of : Reason → ℕ
@@ -24,3 +26,11 @@ number_of TooManySteps = 17
 number_of BufferTooSmall = 18
 number_of AboveItself = 19
 number_of NoRecord = 20
+
+abbrev pub refused_text : ℕ → ℕ → List ℕ
+refused_text number entry = codes "refused " ++ decimal number ++ codes " record " ++ decimal entry ++ codes "\n"
+
+-- empty for any other answer
+abbrev pub line : Reply → List ℕ
+line (Refused number entry) = refused_text number entry
+line _ = []

@@ -139,7 +139,7 @@ pub fn draw(random: &mut Random, test: Test, count: u64) -> Rows {
     let mut rows = Rows::new();
     let mut id = random.between(0, 9);
     for _ in 0..count {
-        let _ = rows.try_push(style.row(random, id.min(63)));
+        rows.push(style.row(random, id.min(63)));
         id = id.saturating_add(random.between(1, 8));
     }
     rows

@@ -1,10 +1,10 @@
 // What a planner answers, and why it refuses. An answer tells a refusal by its number, since each planner has its own names for refusals.
-ghost use Rattle.std.specs.Prelude.{◌≡◌, ◌++◌, MatchResult, Some, codes, decimal};
-ghost use Rattle.second.specs.Reasons.{number_of};
+ghost use Rattle.std.specs.Prelude.{◌≡◌, ◌++◌, IfOk, MatchResult, Some, codes, decimal, string_bytes};
+ghost use Rattle.second.specs.Reasons.{number_of, line, refused_text};
 ghost use Rattle.second.specs.declared.reply.Failure.TheVariants as failure;
 ghost use Rattle.second.specs.declared.reply.Reply.TheVariants as reply;
 
-use std::alloc::AllocError;
+use std::alloc::{AllocError, Global};
 use std::fmt;
 use thiserror::Error;
 
@@ -19,6 +19,31 @@ pub enum Reply {
     Listed { bytes: u64 },
     // an arm and no Err, since refusals too are compared and printed as answers
     Refused { number: u64, record: u64 },
+}
+
+// A refusal that names no record.
+pub fn turned_down(number: u64) -> Reply
+    ensures { result ≡ reply.Refused number 0 }
+{
+    Reply::Refused { number, record: 0 }
+}
+
+fn refused_line(heap: Global, number: u64, record: u64) -> Result<String, AllocError>
+    ensures { IfOk result (λ text. string_bytes text ≡ refused_text number «record») }
+{
+    let mut text = format!(in heap; "refused {number} record {record}")?;
+    text.push('\n')?;
+    Ok(text)
+}
+
+// The line of a refusal; empty for any other answer.
+pub fn line_of(heap: Global, reply: Reply) -> Result<String, AllocError>
+    ensures { IfOk result (λ text. string_bytes text ≡ line reply) }
+{
+    match reply {
+        Reply::Refused { number, record } => refused_line(heap, number, record),
+        _ => Ok(String::new(heap)),
+    }
 }
 
 // Why a planner refuses, by the numbers that refusals are told by.
@@ -69,8 +94,8 @@ impl Reason {
 // A refusal, and the record that it names, or 0, the number that the line of a refusal then shows.
 #[derive(Clone, Copy, PartialEq, Eq, Debug)]
 pub struct Refusal {
-    reason: Reason,
-    record: u64,
+    pub reason: Reason,
+    pub record: u64,
 }
 
 impl From<Reason> for Refusal {

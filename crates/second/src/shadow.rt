@@ -7,19 +7,15 @@ use crate::walk::{Walk, walk_tree};
 use law::command::Command;
 use std::alloc::Global;
 
-// A walk that was begun: what it finds, and how many of its vertices are left.
-#[derive(Drop)]
-struct Begun {
-    found: Walk,
-    left: u64,
-}
-
-#[derive(Drop)]
+#[derive(Clone, Copy)]
 pub struct Shadow {
     heap: Global,
     pub kind: Kind,
     pub rows: Rows,
-    begun: Option<Begun>,
+    // how many vertices of a walk that was begun are left
+    left: Option<u64>,
+    // what the last walk found; it stays when the walk is given up
+    found: Walk,
 }
 
 impl Shadow {
@@ -28,7 +24,8 @@ impl Shadow {
             heap,
             kind,
             rows: Rows::new(),
-            begun: None,
+            left: None,
+            found: Walk::none(),
         }
     }
 
@@ -46,23 +43,20 @@ impl Shadow {
     }
 
     pub fn is_under_way(&self) -> bool {
-        self.begun.as_ref().is_some_and(|begun| begun.left > 0)
+        self.left.is_some_and(|left| left > 0)
     }
 
-    // The order that the walk found; none before a walk. By a match, since `map_or` would need a closure that turns the list into a slice.
+    // The order that the last walk found, also once the walk is given up; none before a walk.
     pub fn order(&self) -> &[usize] {
-        match &self.begun {
-            Some(begun) => &begun.found.best,
-            None => &[],
-        }
+        self.found.best.all()
     }
 
     // What the walk found, once it is finished.
     fn finished(&self) -> Result<&Walk, Reason> {
-        match &self.begun {
+        match self.left {
             None => Err(Reason::NotBegun),
-            Some(begun) if begun.left > 0 => Err(Reason::NotFinished),
-            Some(begun) => Ok(&begun.found),
+            Some(left) if left > 0 => Err(Reason::NotFinished),
+            Some(_) => Ok(&self.found),
         }
     }
 
@@ -77,17 +71,20 @@ impl Shadow {
 
     // The place of the task of an id.
     fn find(&self, id: u64) -> Result<usize, Reason> {
-        self.rows
-            .iter()
-            .position(|row| row.id == id)
-            .ok_or(Reason::UnknownId)
+        self.rows.find(id).ok_or(Reason::UnknownId)
+    }
+
+    // Other tasks; a walk is given up.
+    fn hold(&mut self, rows: Rows) -> Reply {
+        self.rows = rows;
+        self.left = None;
+        Reply::Done
     }
 
     fn load(&mut self, file: &[u8]) -> Result<Reply, Refusal> {
         self.at_rest()?;
-        self.rows = read(self.kind, file)?;
-        self.begun = None;
-        Ok(Reply::Done)
+        let rows = read(self.kind, file)?;
+        Ok(self.hold(rows))
     }
 
     fn add(&mut self, row: Row) -> Result<Reply, Reason> {
@@ -96,76 +93,76 @@ impl Shadow {
         if self.find(row.id).is_ok() {
             return Err(Reason::IdTaken);
         }
-        if self.rows.is_full() {
+        if self.rows.all().len() == 16 {
             return Err(Reason::TooManyTasks);
         }
-        let place = self.rows.partition_point(|other| other.id < row.id);
-        self.rows.insert(place, row);
-        self.begun = None;
-        Ok(Reply::Done)
+        let rows = self.rows.with(row);
+        Ok(self.hold(rows))
     }
 
     fn give_up(&mut self, id: u64) -> Result<Reply, Reason> {
         self.at_rest()?;
         let _ = self.find(id)?;
-        self.rows.retain(|row| row.id != id);
-        self.begun = None;
-        Ok(Reply::Done)
+        let rows = self.rows.without(id);
+        Ok(self.hold(rows))
     }
 
     fn start(&mut self) -> Result<Reply, Failure> {
         self.at_rest()?;
-        if self.rows.is_empty() {
+        let rows = self.rows.all();
+        if rows.is_empty() {
             return Err(Reason::NoTasks.into());
         }
-        let times = Times::new(self.heap, self.kind.test, &self.rows)?;
+        let times = Times::new(self.heap, self.kind.test, rows)?;
         let problem = Problem {
             kind: self.kind,
-            rows: &self.rows,
+            rows,
             times: &times,
         };
         let found = walk_tree(&problem).ok_or(Reason::AlwaysLate)?;
-        let left = found.vertices;
-        self.begun = Some(Begun { found, left });
+        self.left = Some(found.vertices);
+        self.found = found;
         Ok(Reply::Started)
     }
 
     fn advance(&mut self, most: u64) -> Result<Reply, Reason> {
-        let begun = self.begun.as_mut().ok_or(Reason::NotBegun)?;
+        let left = self.left.ok_or(Reason::NotBegun)?;
         if most > 1_000_000 {
             return Err(Reason::TooManySteps);
         }
-        let count = begun.left.min(most);
-        begun.left -= count;
+        let count = left.min(most);
+        self.left = Some(left - count);
         Ok(Reply::Advanced {
             count,
-            finished: begun.left == 0,
+            finished: count == left,
         })
     }
 
     fn stop(&mut self) -> Result<Reply, Reason> {
-        self.begun.take().ok_or(Reason::NotBegun)?;
+        self.left.take().ok_or(Reason::NotBegun)?;
         Ok(Reply::Done)
     }
 
     // The task of a level, and its time below the tasks of a set. The tasks of a found order are held and in time, so neither default is ever
     // shown.
     fn level(&self, task: usize, above: u64) -> (u64, u64) {
-        let id = self.rows.get(task).copied().unwrap_or_default().id;
-        let response = time(self.kind.test, &self.rows, task, above).unwrap_or(0);
+        let rows = self.rows.all();
+        let id = rows.get(task).copied().unwrap_or_default().id;
+        let response = time(self.kind.test, rows, task, above).unwrap_or(0);
         (id, response)
     }
 
     // A level of a report is one number: the id, and 26 bits that the time ends.
     fn report(&self, out: &mut [u8]) -> Result<Reply, Reason> {
         let found = self.finished()?;
-        let size = found.best.len().saturating_mul(4);
+        let order = found.best.all();
+        let size = order.len().saturating_mul(4);
         if out.len() < size {
             return Err(Reason::BufferTooSmall);
         }
         // the set above grows with the loop, here and wherever an order is gone through: an iterator that hands it out would need a type of its own
         let mut above = 0;
-        for (task, place) in found.best.iter().zip(out.chunks_exact_mut(4)) {
+        for (task, place) in order.iter().zip(out.chunks_exact_mut(4)) {
             let (id, response) = self.level(*task, above);
             let number = id.wrapping_mul(1 << 26).wrapping_add(response);
             place.copy_from_slice(&number.to_be_bytes()[4..]);
@@ -186,7 +183,7 @@ impl Shadow {
         }
         let mut text = String::new(self.heap);
         let mut above = 0;
-        for (level, task) in (1u64..).zip(&found.best) {
+        for (level, task) in (1u64..).zip(found.best.all()) {
             let (id, response) = self.level(*task, above);
             writeln!(text, "{level} {id} {response}")?;
             above |= bit(*task);
@@ -199,9 +196,11 @@ impl Shadow {
 
     // The vertices of the whole tree, counted from the lowest level up.
     pub fn vertex_bound(&self) -> u64 {
-        (1..).zip(&self.rows).fold(0, |below: u64, (tasks, _)| {
-            below.saturating_add(1).saturating_mul(tasks)
-        })
+        (1..)
+            .zip(self.rows.all())
+            .fold(0, |below: u64, (tasks, _)| {
+                below.saturating_add(1).saturating_mul(tasks)
+            })
     }
 
     // The time of a task with a set of ids above it; none where it is late.

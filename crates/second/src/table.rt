@@ -1,9 +1,10 @@
 // The second planner's tasks, and its own reading and packing of a table: a record is one number of 96 bits, and fields are taken off
 // its end by division.
-ghost use Rattle.std.specs.Prelude.{◌≡◌, min};
+ghost use Rattle.std.specs.Prelude.{◌≡◌, ◌≤◌, min};
+ghost use Rattle.second.specs.Times.{no_time};
 
-use crate::reply::{Reason, Refusal};
-use arrayvec::ArrayVec;
+use crate::reply::Reason;
+pub use crate::reply::Refusal;
 use std::alloc::{AllocError, Global};
 use tasks::task::Candidate;
 
@@ -19,17 +20,37 @@ pub struct Row {
     pub period: u64,
 }
 
+// Whether a number is no time above 0, or a longer one than a record can hold.
+fn is_no_time(ticks: u64) -> bool
+    ensures { result ≡ no_time ticks }
+{
+    ticks == 0 || ticks > 1_048_575
+}
+
 impl Row {
+    ghost use Rattle.second.specs.Checks.{beyond, checked};
+
+    // Whether a record cannot hold the numbers beside the times.
+    fn is_beyond(&self) -> bool
+        ensures { result ≡ beyond self.now }
+    {
+        self.id > 63 || self.tier > 1 || self.weight > 65_535 || self.section > 4_095
+    }
+
     // The first rule that a task breaks by itself.
-    pub(crate) fn check(&self, test: Test) -> Result<(), Reason> {
-        let times = [self.execution, self.deadline, self.period];
+    pub fn check(&self, test: Test) -> Result<(), Reason>
+        ensures { result ≡ checked test self.now }
+    {
         let admitted = match test {
             Test::OneJob => self.deadline <= self.period,
             Test::Window => self.section == 0,
         };
-        if self.id > 63 || self.tier > 1 || self.weight > 65_535 || self.section > 4_095 {
+        if self.is_beyond() {
             Err(Reason::OutOfRange)
-        } else if times.contains(&0) || times.iter().max() > Some(&1_048_575) {
+        } else if is_no_time(self.execution)
+            || is_no_time(self.deadline)
+            || is_no_time(self.period)
+        {
             Err(Reason::OutOfRange)
         } else if self.period < self.execution || self.deadline < self.execution {
             Err(Reason::TooLittleTime)
@@ -83,8 +104,95 @@ impl From<Row> for Candidate {
     }
 }
 
-// The tasks of a table, of which there are at most sixteen.
-pub type Rows = ArrayVec<Row, 16>;
+// What stands in a list where there is no task: no list shows it.
+pub const NO_ROW: Row = Row {
+    id: 0,
+    tier: 0,
+    weight: 0,
+    section: 0,
+    execution: 0,
+    deadline: 0,
+    period: 0,
+};
+
+// The tasks of a table, of which there are at most sixteen. An array and its length, since a list is copied, and so that the two planners hold
+// their tasks in lists of their own.
+#[derive(Clone, Copy)]
+pub struct Rows {
+    count: usize,
+    places: [Row; 16],
+    ghost few: { count ≤ 16 },
+}
+
+// No Default: it cannot be derived beside a ghost field.
+impl Rows {
+    ghost use Rattle.std.specs.Prelude.{◌<◌, ◌++◌, ◌∷◌, [], length, position, filter, not, ◌==◌};
+    ghost use Rattle.second.specs.Lists.{held};
+
+    pub fn new() -> Rows
+        ensures { held result ≡ [] }
+    {
+        Rows {
+            count: 0,
+            places: [NO_ROW; 16],
+        }
+    }
+
+    // One task more at the end; the same list where sixteen are held.
+    pub fn push(&mut self, row: Row)
+        ensures room { length (held self.old) < 16 → held self.new ≡ held self.old ++ row ∷ [] }
+        ensures full { length (held self.old) ≡ 16 → self.new ≡ self.old }
+    {
+        let end = self.count;
+        if end < 16 {
+            self.places[end] = row;
+            self.count = end + 1;
+        }
+    }
+
+    pub fn all(&self) -> &[Row]
+        ensures tasks { result.now ≡ held self.now }
+        ensures few { length result.now ≤ 16 }
+    {
+        &self.places[0..self.count]
+    }
+
+    // The place of the task of an id.
+    pub fn find(&self, id: u64) -> Option<usize>
+        ensures { result ≡ position (λ row. row.id == id) (held self.now) }
+    {
+        self.all().iter().position(|row| row.id == id)
+    }
+
+    // With one task more, by id.
+    pub fn with(&self, row: Row) -> Rows {
+        let mut rows = Rows::new();
+        for other in self.all() {
+            if other.id < row.id {
+                rows.push(*other);
+            }
+        }
+        rows.push(row);
+        for other in self.all() {
+            if other.id > row.id {
+                rows.push(*other);
+            }
+        }
+        rows
+    }
+
+    pub fn without(&self, id: u64) -> Rows
+        ensures { held result ≡ filter (λ row. not (row.id == id)) (held self.now) }
+    {
+        let mut rows = Rows::new();
+        for row in self.all() {
+            if row.id != id {
+                rows.push(*row);
+            }
+        }
+        rows
+    }
+}
 
 // What a task is tested by: one job, or each job of its busy window.
 #[derive(Clone, Copy, PartialEq, Eq, Debug)]
@@ -165,7 +273,7 @@ fn read_rows(test: Test, records: &[u8]) -> Result<Rows, Refusal> {
     for (bytes, record) in records.chunks(12).zip(1..) {
         let row = read_row(test, bytes, floor).map_err(|reason| reason.in_record(record))?;
         floor = row.id.saturating_add(1);
-        let _ = rows.try_push(row);
+        rows.push(row);
     }
     Ok(rows)
 }

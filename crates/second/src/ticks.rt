@@ -1,5 +1,5 @@
 // A tick machine: plays an order tick by tick, and looks whether a job takes longer than its task's time.
-ghost use Rattle.std.specs.Prelude.{◌≡◌, ◌≢◌, ◌↔◌, Any, IsTrue};
+ghost use Rattle.std.specs.Prelude.{◌≡◌, ◌≢◌, ◌↔◌, All, Any, IsTrue};
 ghost use Rattle.second.specs.declared.ticks.Workload.TheVariants.{Worst};
 
 use crate::every_order::Problem;
@@ -41,6 +41,12 @@ pub enum Workload {
 }
 
 impl Workload {
+    pub fn is_worst(&self) -> bool
+        ensures { IsTrue result ↔ (self.now ≡ Worst) }
+    {
+        matches!(self, Workload::Worst)
+    }
+
     // How many ticks from 0 the first release comes.
     fn first(&mut self, row: Row) -> u64 {
         match self {
@@ -74,26 +80,27 @@ impl Workload {
     }
 }
 
-// The machine: its levels, the pending jobs by release, which of them ran last, and what says when jobs come. One list for
-// the jobs of all levels: a list in each lane would be one allocation more for each, and be printed with the lane.
+// The machine: its levels, the pending jobs by release, which of them ran last, and what says when jobs come, which is borrowed, so that a caller
+// goes on with its random numbers. One list for the jobs of all levels: a list in each lane would be one allocation more for each, and be printed
+// with the lane.
 #[derive(Drop)]
-pub struct Machine {
+pub struct Machine<'a> {
     pub lanes: Vec<Lane>,
     pending: Vec<Job>,
     kept: Option<usize>,
-    workload: Workload,
+    workload: &'a mut Workload,
     pub ended: u64,
     pub late: u64,
 }
 
-impl Machine {
+impl<'a> Machine<'a> {
     pub fn new(
         heap: Global,
         problem: &Problem,
         order: &[usize],
         times: &[u64],
-        mut workload: Workload,
-    ) -> Result<Machine, AllocError> {
+        workload: &'a mut Workload,
+    ) -> Result<Machine<'a>, AllocError> {
         let mut lanes = Vec::new(heap);
         for (task, time) in order.iter().zip(times) {
             // the tasks of an order are held, so the default row is never taken
@@ -182,12 +189,18 @@ impl Machine {
         self.late = self.late.saturating_add(late);
     }
 
+    // Whether some job of each level took as long as its time.
+    pub fn reached(&self) -> bool
+        ensures { IsTrue result ↔ All (λ lane. lane.longest ≡ lane.time) self.now.lanes.items }
+    {
+        self.lanes.iter().all(|lane| lane.longest == lane.time)
+    }
+
     // Whether the workload is the worst, and yet some level had no job that took as long as its time.
     pub fn missed_worst(&self) -> bool
-        ensures { IsTrue result ↔ (self.now.workload ≡ Worst) × Any (λ lane. lane.longest ≢ lane.time) self.now.lanes.items }
+        ensures { IsTrue result ↔ (self.now.workload.now ≡ Worst) × Any (λ lane. lane.longest ≢ lane.time) self.now.lanes.items }
     {
-        matches!(self.workload, Workload::Worst)
-            && self.lanes.iter().any(|lane| lane.longest != lane.time)
+        self.workload.is_worst() && self.lanes.iter().any(|lane| lane.longest != lane.time)
     }
 
     // Plays some ticks from 0.

@@ -35,7 +35,7 @@ struct Level<'a> {
 
 impl Level<'_> {
     // What the tasks above ask for before a tick.
-    fn load(self, ticks: u64) -> u64 {
+    fn load(&self, ticks: u64) -> u64 {
         self.rows
             .iter()
             .enumerate()
@@ -45,7 +45,7 @@ impl Level<'_> {
     }
 
     // The longest section of a task that is neither above nor the task itself.
-    fn blocking(self) -> u64 {
+    fn blocking(&self) -> u64 {
         self.rows
             .iter()
             .enumerate()
@@ -56,16 +56,16 @@ impl Level<'_> {
     }
 
     // The least time from `from` to `last` that is `base` and the load of the tasks above.
-    fn scan(self, base: u64, from: u64, last: u64) -> Option<u64> {
+    fn scan(&self, base: u64, from: u64, last: u64) -> Option<u64> {
         (from..last.saturating_add(1)).find(|time| base.saturating_add(self.load(*time)) == *time)
     }
 
-    fn one_job(self) -> Option<u64> {
+    fn one_job(&self) -> Option<u64> {
         let base = self.row.execution.saturating_add(self.blocking());
         self.scan(base, 1, self.row.deadline)
     }
 
-    fn window(self) -> Option<u64> {
+    fn window(&self) -> Option<u64> {
         let row = self.row;
         let mut worst: u64 = 0;
         let mut from = 1;
@@ -102,30 +102,33 @@ pub fn time(test: Test, rows: &[Row], task: usize, above: u64) -> Option<u64> {
 // The times of every task below every set of tasks.
 #[derive(Drop)]
 pub struct Times {
-    // for each set the times of all tasks; none also for a task that is in the set
-    sets: Vec<Vec<Option<u64>>>,
+    pub count: usize,
+    // the sets one after the other, in each the tasks; none also for a task that is in the set. One list, since a list for each set would be as
+    // many allocations.
+    places: Vec<Option<u64>>,
 }
 
 impl Times {
     pub fn new(heap: Global, test: Test, rows: &[Row]) -> Result<Times, AllocError> {
-        let mut sets = Vec::new(heap);
+        let mut places = Vec::new(heap);
         for above in 0..bit(rows.len()) {
-            let times = (0..rows.len())
-                .map(|task| {
-                    if has(above, task) {
-                        None
-                    } else {
-                        time(test, rows, task, above)
-                    }
-                })
-                .collect(heap)?;
-            sets.push(times)?;
+            for task in 0..rows.len() {
+                if has(above, task) {
+                    places.push(None)?;
+                } else {
+                    places.push(time(test, rows, task, above))?;
+                }
+            }
         }
-        Ok(Times { sets })
+        Ok(Times {
+            count: rows.len(),
+            places,
+        })
     }
 
     pub fn get(&self, task: usize, above: u64) -> Option<u64> {
-        let set = usize::try_from(above).ok()?;
-        self.sets.get(set)?.get(task).copied()?
+        let set = usize::try_from(above).unwrap_or(0);
+        let place = set.saturating_mul(self.count).saturating_add(task);
+        self.places.get(place).copied()?
     }
 }

@@ -1,10 +1,13 @@
 // The second planner's branch and bound. It keeps one path and no stack: the vertices are met in the order of their paths, so the next one is
 // below the path, or beside it, or beside one of its ancestors.
+ghost use Rattle.std.specs.Prelude.{◌≡◌, []};
+ghost use Rattle.second.specs.Lists.{levels};
+
 use crate::every_order::{Path, Price, Problem};
 use crate::times::{bit, every, has};
 
 // The best order, its price, and how many vertices were met.
-#[derive(Drop)]
+#[derive(Clone, Copy)]
 pub struct Walk {
     pub best: Path,
     pub price: Price,
@@ -26,14 +29,17 @@ fn lowest(problem: &Problem, unplaced: u64) -> Option<usize> {
 // The first order, from the lowest level up; none where no order passes.
 fn first_order(problem: &Problem) -> Option<Path> {
     let count = problem.rows.len();
-    let mut order = Path::new();
+    let mut upward = Path::new();
     let mut unplaced = every(count);
     for _ in 0..count {
         let task = lowest(problem, unplaced)?;
-        let _ = order.try_push(task);
+        upward.push(task);
         unplaced &= !bit(task);
     }
-    order.reverse();
+    let mut order = Path::new();
+    for task in upward.all().iter().rev() {
+        order.push(*task);
+    }
     Some(order)
 }
 
@@ -48,18 +54,29 @@ fn bound(problem: &Problem, path: &[usize], price: Price) -> Option<Price> {
 }
 
 impl Walk {
+    // Before any walk.
+    pub fn none() -> Walk
+        ensures { (levels result.best ≡ []) × (result.price ≡ record { first = 0; second = 0 }) × (result.vertices ≡ 0) }
+    {
+        Walk {
+            best: Path::new(),
+            price: Price::zero(),
+            vertices: 0,
+        }
+    }
+
     // Looks at the vertex of a path, and says whether the vertices below it are to be met.
-    fn meet(&mut self, problem: &Problem, path: &[usize]) -> bool {
+    fn meet(&mut self, problem: &Problem, path: &Path) -> bool {
         self.vertices = self.vertices.saturating_add(1);
-        let Some(price) = problem.path_price(path) else {
+        let tasks = path.all();
+        let Some(price) = problem.path_price(tasks) else {
             return false;
         };
-        if path.len() < problem.rows.len() {
-            return bound(problem, path, price).is_some_and(|bound| bound < self.price);
+        if tasks.len() < problem.rows.len() {
+            return bound(problem, tasks, price).is_some_and(|bound| bound < self.price);
         }
         if price < self.price {
-            self.best.clear();
-            let _ = self.best.try_extend_from_slice(path);
+            self.best = *path;
             self.price = price;
         }
         false
@@ -73,12 +90,12 @@ fn beside(path: &[usize], count: usize, from: usize) -> Option<usize> {
 
 // Cuts a path back to where the next path goes on, and gives the next path's last task; none where there is no next path.
 fn next_task(path: &mut Path, count: usize, below: bool) -> Option<usize> {
-    if below && let Some(task) = beside(path, count, 0) {
+    if below && let Some(task) = beside(path.all(), count, 0) {
         return Some(task);
     }
-    for _ in 0..path.len() {
+    for _ in 0..path.all().len() {
         let last = path.pop()?;
-        if let Some(task) = beside(path, count, last.saturating_add(1)) {
+        if let Some(task) = beside(path.all(), count, last.saturating_add(1)) {
             return Some(task);
         }
     }
@@ -91,7 +108,7 @@ pub fn walk_tree(problem: &Problem) -> Option<Walk> {
         return None;
     }
     let best = first_order(problem)?;
-    let price = problem.path_price(&best)?;
+    let price = problem.path_price(best.all())?;
     let mut found = Walk {
         best,
         price,
@@ -103,7 +120,7 @@ pub fn walk_tree(problem: &Problem) -> Option<Walk> {
         let Some(task) = next_task(&mut path, problem.rows.len(), below) else {
             break;
         };
-        let _ = path.try_push(task);
+        path.push(task);
         below = found.meet(problem, &path);
     }
     Some(found)

@@ -1,14 +1,15 @@
 // Up to sixteen tasks, and the codes of a plan.
-ghost use Rattle.std.specs.Prelude.{◌<◌, ◌≤◌, length};
+ghost use Rattle.std.specs.Prelude.{◌<◌, ◌≤◌};
 
 use crate::task::Task;
-use arrayvec::ArrayVec;
 
-// The tasks lie in the list itself: nothing is allocated for them.
-#[derive(Drop)]
+// The tasks lie in the list itself: nothing is allocated for them. An array and its length, since a list is copied, and the library's list of a
+// fixed size cannot be.
+#[derive(Clone, Copy)]
 pub struct TaskList {
-    pub tasks: ArrayVec<Task, 16>,
-    ghost few: { length tasks.items ≤ 16 },
+    pub tasks: [Task; 16],
+    pub len: usize,
+    ghost few: { len ≤ 16 },
 }
 
 // The codes of a response test and of a cost. Numbers, since an enum would close the set of tests and costs.

@@ -1,5 +1,5 @@
 // Making and reading a list of tasks.
-ghost use Rattle.std.specs.Prelude.{◌≡◌, ◌<◌, ◌≤◌, [], ◌∷◌, ◌++◌, length, Ok, Err};
+ghost use Rattle.std.specs.Prelude.{◌≡◌, ◌+◌, ◌<◌, ◌≤◌, [], ◌∷◌, ◌++◌, length, Ok, Err};
 ghost use Rattle.tasks.specs.Lists.{items};
 ghost use Rattle.tasks.specs.Tasks.{plain, blank};
 ghost use Rattle.tasks.specs.declared.fault.PlanFault.TheVariants.{Full};
@@ -7,7 +7,6 @@ ghost use Rattle.tasks.specs.declared.fault.PlanFault.TheVariants.{Full};
 use crate::fault::PlanFault;
 use crate::list::TaskList;
 use crate::task::Task;
-use arrayvec::ArrayVec;
 
 // What stands in a list where there is no task: no list shows it. By hand, since no Default is derived for a struct with ghost fields.
 impl Default for Task {
@@ -29,25 +28,34 @@ impl Default for Task {
 impl TaskList {
     // No Default: it cannot be derived beside a ghost field, and by hand it would be these lines in an impl of its own.
     pub fn new() -> TaskList
-        ensures { items result ≡ [] }
+        ensures items { items result ≡ [] }
+        ensures len { result.len ≡ 0 }
     {
         TaskList {
-            tasks: ArrayVec::new(),
+            tasks: [Task::default(); 16],
+            len: 0,
         }
     }
 
     pub fn as_slice(&self) -> &[Task]
         ensures items { result.now ≡ items self.now }
+        ensures len { length result.now ≡ self.now.len }
         ensures few { length result.now ≤ 16 }
     {
-        self.tasks.as_slice()
+        &self.tasks[0..self.len]
     }
 
     // One task more at the end; the same list where sixteen are held.
     pub fn push(&mut self, task: Task) -> Result<(), PlanFault>
-        ensures items { length (items self.old) < 16 → (result ≡ Ok tt) × (items self.new ≡ items self.old ++ task ∷ []) }
+        ensures items { length (items self.old) < 16 → (result ≡ Ok tt) × (items self.new ≡ items self.old ++ task ∷ []) × (self.new.len ≡ self.old.len + 1) }
         ensures full { length (items self.old) ≡ 16 → (result ≡ Err Full) × (self.new ≡ self.old) }
     {
-        self.tasks.try_push(task).map_err(|_| PlanFault::Full)
+        let at = self.len;
+        if at >= 16 {
+            return Err(PlanFault::Full);
+        }
+        self.tasks[at] = task;
+        self.len = at + 1;
+        Ok(())
     }
 }

@@ -1,4 +1,4 @@
-use Rattle.std.proofs.Common.{◌≡◌, ℕ, ◌+◌, ◌*◌, ◌<◌, ◌≤◌, List, ◌++◌, map, length, take, drop, Ok, Result, ap, ◌∙◌, subst, arith, lt-ltb}
+use Rattle.std.proofs.Common.{◌≡◌, ℕ, ◌+◌, ◌*◌, ◌<◌, ◌≤◌, List, ◌++◌, map, length, take, drop, Ok, Result, ap, ◌∙◌, subst, arith, lt-ltb, length-take}
 use Rattle.tasks.specs.declared.task.Task.{Task}
 use Rattle.tasks.specs.declared.list.Codes.{Codes}
 use Rattle.tasks.specs.declared.list.TaskList.{TaskList}
@@ -14,7 +14,7 @@ use Rattle.tables.proofs.table.encode.Goals as goal
 
 -- the tasks of the list are at most sixteen, so their table decodes to them
 back : (codes : Codes) (list : TaskList) (tasks : List Task) → tasks ≡ items list → Back codes.test codes.cost (plains list)
-back codes list tasks same a = tasks_back a codes.test codes.cost codes.tests codes.costs (items list) list.few
+back codes list tasks same a = tasks_back a codes.test codes.cost codes.tests codes.costs (items list) (omega (arith, list.few, length-take list.len list.tasks))
 
 pub returns-then-out-size : goal.returns-then-out-size
 returns-then-out-size c =
