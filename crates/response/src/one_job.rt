@@ -19,13 +19,14 @@ fn longest_below(tasks: &[Task], position: usize, above: TaskSet) -> u32
     ensures exact { result ≡ blocking (timed tasks.now) position above.word }
     ensures short { result < 4096 }
 {
-    tasks
-        .iter()
-        .enumerate()
-        .filter(|(other, _)| *other != position && !above.contains(*other))
-        .map(|(_, task)| u32::from(task.section))
-        .max()
-        .unwrap_or(0)
+    // the test stands inside the fold: a filter before it takes a third more instructions, in what a search asks most
+    tasks.iter().enumerate().fold(0, |longest, (other, task)| {
+        if other == position || above.contains(other) {
+            longest
+        } else {
+            longest.max(u32::from(task.section))
+        }
+    })
 }
 
 impl Admission for OneJob {
