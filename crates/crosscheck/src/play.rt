@@ -60,7 +60,7 @@ impl<T: ResponseTest + Drop, C: Cost + Drop> Pair<'_, T, C> {
         let order = self.second.order();
         let times = times_of(heap, problem, order)?;
         let mut machine = Machine::new(heap, problem, order, &times, workload)?;
-        machine.play(ticks)?;
+        machine.play(ticks, workload)?;
         self.counts.jobs = self.counts.jobs.saturating_add(machine.ended);
         if machine.late > 0 || machine.missed_worst() {
             return self.differ("ticks", &times, &machine.lanes);

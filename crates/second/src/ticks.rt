@@ -1,5 +1,5 @@
 // A tick machine: plays an order tick by tick, and looks whether a job takes longer than its task's time.
-ghost use Rattle.std.specs.Prelude.{◌≡◌, ◌≢◌, ◌↔◌, All, Any, IsTrue};
+ghost use Rattle.std.specs.Prelude.{◌≡◌, ◌≢◌, ◌↔◌, All, Any, IfOk, IsTrue};
 ghost use Rattle.second.specs.declared.ticks.Workload.TheVariants.{Worst};
 
 use crate::every_order::Problem;
@@ -80,27 +80,30 @@ impl Workload {
     }
 }
 
-// The machine: its levels, the pending jobs by release, which of them ran last, and what says when jobs come, which is borrowed, so that a caller
-// goes on with its random numbers. One list for the jobs of all levels: a list in each lane would be one allocation more for each, and be printed
-// with the lane.
+// The machine: its levels, the pending jobs by release, which of them ran last, and whether it was made for the worst workload. The workload itself
+// stays with the caller, which goes on with its random numbers. One list for the jobs of all levels: a list in each lane would be one allocation more
+// for each, and be printed with the lane.
 #[derive(Drop)]
-pub struct Machine<'a> {
+pub struct Machine {
     pub lanes: Vec<Lane>,
     pending: Vec<Job>,
     kept: Option<usize>,
-    workload: &'a mut Workload,
+    worst: bool,
     pub ended: u64,
     pub late: u64,
 }
 
-impl<'a> Machine<'a> {
+impl Machine {
     pub fn new(
         heap: Global,
         problem: &Problem,
         order: &[usize],
         times: &[u64],
-        workload: &'a mut Workload,
-    ) -> Result<Machine<'a>, AllocError> {
+        workload: &mut Workload,
+    ) -> Result<Machine, AllocError>
+        ensures { IfOk result (λ machine. IsTrue machine.worst ↔ (workload.old ≡ Worst)) }
+    {
+        let worst = workload.is_worst();
         let mut lanes = Vec::new(heap);
         for (task, time) in order.iter().zip(times) {
             // the tasks of an order are held, so the default row is never taken
@@ -116,22 +119,22 @@ impl<'a> Machine<'a> {
             lanes,
             pending: Vec::new(heap),
             kept: None,
-            workload,
+            worst,
             ended: 0,
             late: 0,
         })
     }
 
     // Releases the jobs of a tick.
-    fn release(&mut self, tick: u64) -> Result<(), AllocError> {
+    fn release(&mut self, tick: u64, workload: &mut Workload) -> Result<(), AllocError> {
         for (level, lane) in self.lanes.iter_mut().enumerate() {
             if lane.next <= tick {
                 let row = lane.row;
-                lane.next = tick.saturating_add(self.workload.gap(row));
+                lane.next = tick.saturating_add(workload.gap(row));
                 self.pending.push(Job {
                     level,
                     release: tick,
-                    need: self.workload.need(row),
+                    need: workload.need(row),
                     run: 0,
                 })?;
             }
@@ -196,17 +199,17 @@ impl<'a> Machine<'a> {
         self.lanes.iter().all(|lane| lane.longest == lane.time)
     }
 
-    // Whether the workload is the worst, and yet some level had no job that took as long as its time.
+    // Whether it was made for the worst workload, and yet some level had no job that took as long as its time.
     pub fn missed_worst(&self) -> bool
-        ensures { IsTrue result ↔ (self.now.workload.now ≡ Worst) × Any (λ lane. lane.longest ≢ lane.time) self.now.lanes.items }
+        ensures { IsTrue result ↔ (IsTrue self.now.worst) × Any (λ lane. lane.longest ≢ lane.time) self.now.lanes.items }
     {
-        self.workload.is_worst() && self.lanes.iter().any(|lane| lane.longest != lane.time)
+        self.worst && self.lanes.iter().any(|lane| lane.longest != lane.time)
     }
 
     // Plays some ticks from 0.
-    pub fn play(&mut self, ticks: u64) -> Result<(), AllocError> {
+    pub fn play(&mut self, ticks: u64, workload: &mut Workload) -> Result<(), AllocError> {
         for tick in 0..ticks {
-            self.release(tick)?;
+            self.release(tick, workload)?;
             self.run(tick);
             self.judge(tick);
         }

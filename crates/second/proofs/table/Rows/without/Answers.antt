@@ -4,7 +4,6 @@ use Rattle.std.proofs.lemmas.Grind.{common_steps}
 use Rattle.std.proofs.lemmas.List.Elements.{filter_more}
 use Rattle.std.proofs.lemmas.List.Filters.{length-filter_both}
 use Rattle.second.specs.declared.table.Row.{Row}
-use Rattle.second.specs.Lists.{held}
 use Rattle.second.proofs.table.Rows.without.Goals as goal
 use Rattle.second.proofs.table.Rows.without.Goals.{then-row-id, else-row-id}
 
