@@ -1,4 +1,7 @@
 // The second planner as a plan: its tasks, how far its walk is, and what it answers to each command.
+ghost use Rattle.std.specs.Prelude.{◌≡◌};
+ghost use Rattle.second.specs.Lists.{levels};
+
 use crate::every_order::Problem;
 use crate::reply::{Failure, Reason, Refusal, Reply};
 use crate::table::{Kind, Row, Rows, read};
@@ -47,7 +50,9 @@ impl Shadow {
     }
 
     // The order that the last walk found, also once the walk is given up; none before a walk.
-    pub fn order(&self) -> &[usize] {
+    pub fn order(&self) -> &[usize]
+        ensures { result.now ≡ levels self.now.found.best }
+    {
         self.found.best.all()
     }
 
